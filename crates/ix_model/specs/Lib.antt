@@ -1,0 +1,13 @@
+pub mod Bare
+pub mod Classes
+pub mod Codes
+pub mod Derives
+pub mod FailedXml
+pub mod Gives
+pub mod Heights
+pub mod Order
+pub mod Sets
+pub mod Terminals
+pub mod Trees
+pub mod Written
+pub mod Xml
