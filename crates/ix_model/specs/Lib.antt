@@ -5,7 +5,9 @@ pub mod Derives
 pub mod FailedXml
 pub mod Gives
 pub mod Heights
+pub mod Laws
 pub mod Order
+pub mod Plain
 pub mod Sets
 pub mod Terminals
 pub mod Trees

@@ -1,0 +1,30 @@
+-- Laws of derivations and of their order.
+use Rattle.std.specs.Prelude.{◌≡◌, ◌⊎◌, ℕ, ◌+◌, List}
+use Rattle.ix_model.specs.declared.grammar.Grammar.{Grammar}
+use Rattle.ix_model.specs.declared.grammar.Term.{Term}
+use Rattle.ix_model.specs.Written.{IsNamed}
+use Rattle.ix_model.specs.Trees.{Tree, width}
+use Rattle.ix_model.specs.Derives.{Derives}
+use Rattle.ix_model.specs.Order.{Before, First}
+
+-- no two rules have one name
+abbrev pub HasUniqueNames : Grammar → Type 0
+HasUniqueNames g = (r q : ℕ) (name : List ℕ) → IsNamed g r name → IsNamed g q name → r ≡ q
+
+-- a tree is as wide as each span that it derives
+abbrev pub WidthIsSpan : Type 0
+WidthIsSpan = (g : Grammar) (s : List ℕ) (d : Tree) (t : Term) (i j : ℕ) → Derives g s d t i j → i + width d ≡ j
+
+-- of two derivations of one term over one span, they are equal or one is before the other
+abbrev pub OrderIsTotal : Type 0
+OrderIsTotal =
+    (g : Grammar) (s : List ℕ) (d e : Tree) (t : Term) (i j : ℕ) →
+    HasUniqueNames g → Derives g s d t i j → Derives g s e t i j → (d ≡ e) ⊎ (Before d e j ⊎ Before e d j)
+
+-- no two trees are each before the other
+abbrev pub OrderIsAsymmetric : Type 0
+OrderIsAsymmetric = (d e : Tree) (end : ℕ) → Before d e end → ¬ (Before e d end)
+
+-- two first derivations are one
+abbrev pub FirstIsOne : Type 0
+FirstIsOne = (g : Grammar) (s : List ℕ) (d e : Tree) → HasUniqueNames g → First g s d → First g s e → d ≡ e
