@@ -1,9 +1,8 @@
--- No two trees are each before the other, so there is at most one first derivation.
-use Rattle.std.proofs.Common.{sym, subst, ◌≢◌, ◌-◌, ℕ, List, length, arith}
+-- No two trees are each before the other.
+use Rattle.std.proofs.Common.{sym, subst, ◌-◌, ℕ, arith}
 use mathlib.Core.Logic.{inl, inr}
-use Rattle.ix_model.specs.declared.grammar.Grammar.{Grammar}
 use Rattle.ix_model.specs.Trees.{Tree, node, group, present, absent, no_item, list, Trees, no_tree, and, Repeated, one, again, again_after, width}
-use Rattle.ix_model.specs.Order.{Before, AllBefore, RepeatedBefore, First}
+use Rattle.ix_model.specs.Order.{Before, AllBefore, RepeatedBefore}
 
 mutual
   pub asym : (d e : Tree) (n : ℕ) → Before d e n → Before e d n → ⊥
@@ -77,7 +76,3 @@ mutual
       asym p p (n - width e) t t
   repeated_asym (again_after ds p d) (again_after es q e) n (inr (w, inr (a, inr (x, inr y)))) (inr (v, inr (b, inr (u, inr z)))) = asym d e n y.1 z.1
   repeated_asym _ _ n h k = absurd h
-
--- there is at most one first derivation
-pub one_first : (g : Grammar) (s : List ℕ) (d e : Tree) → First g s d → First g s e → d ≢ e → ⊥
-one_first g s d e h k n = asym d e (length s) (h.1 e k.0 (λ x. n (sym x))) (k.1 d h.0 n)

@@ -27,4 +27,4 @@ OrderIsAsymmetric = (d e : Tree) (end : ℕ) → Before d e end → ¬ (Before e
 
 -- two first derivations are one
 abbrev pub FirstIsOne : Type 0
-FirstIsOne = (g : Grammar) (s : List ℕ) (d e : Tree) → HasUniqueNames g → First g s d → First g s e → d ≡ e
+FirstIsOne = (g : Grammar) (s : List ℕ) (d e : Tree) → First g s d → First g s e → d ≡ e

@@ -1,0 +1,22 @@
+//! Laws of derivations and of their order. Each function's contract is the law; the bodies are empty.
+ghost use Rattle.ix_model.specs.Laws.{FirstIsOne, OrderIsAsymmetric, OrderIsTotal, WidthIsSpan};
+
+/// A tree is as wide as each span that it derives.
+pub fn width_is_span()
+    ensures { WidthIsSpan }
+{}
+
+/// Of two derivations of one term over one span, they are equal or one is before the other.
+pub fn order_is_total()
+    ensures { OrderIsTotal }
+{}
+
+/// No two trees are each before the other.
+pub fn order_is_asymmetric()
+    ensures { OrderIsAsymmetric }
+{}
+
+/// No text has two first derivations.
+pub fn first_is_one()
+    ensures { FirstIsOne }
+{}
