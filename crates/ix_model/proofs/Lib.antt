@@ -1,6 +1,9 @@
 pub mod Asym
+pub mod Forming
 pub mod Forms
+pub mod Inversions
 pub mod Lines
 pub mod Once
+pub mod SmallTexts
 pub mod Total
 pub mod Widths

@@ -2,6 +2,8 @@ pub mod Bare
 pub mod Classes
 pub mod Codes
 pub mod Derives
+pub mod ExampleGrammars
+pub mod ExampleTrees
 pub mod FailedXml
 pub mod Gives
 pub mod Heights

@@ -1,0 +1,267 @@
+-- All derivations of the small texts of the worked examples.
+use Rattle.std.proofs.Common.{◌≡◌, ◌≢◌, refl, ap, sym, subst, ◌⊎◌, ◌+◌, ◌≤◌, ℕ, zero, suc, List, [], ◌∷◌, length, codes, arith}
+use mathlib.Core.Logic.{inl, inr}
+use Rattle.ix_model.specs.declared.grammar.Rule.{Rule}
+use Rattle.ix_model.specs.declared.grammar.Alt.{Alt}
+use Rattle.ix_model.specs.declared.grammar.Term.{Term, One}
+use Rattle.ix_model.specs.Written.{IsOfRule}
+use Rattle.ix_model.specs.Terminals.{StandsAt}
+use Rattle.ix_model.specs.Trees.{Tree, text, node, group, Trees, no_tree, and}
+use Rattle.ix_model.specs.Heights.{height}
+use Rattle.ix_model.specs.Derives.{Derives, DerivesAll, IsDerivation}
+use Rattle.ix_model.specs.Order.{Before, First}
+use Rattle.ix_model.specs.ExampleGrammars.{alternative, rule, quoted, call, of_term, a_or_b, only_a, two_ways, cycle, sums, empty}
+use Rattle.ix_model.specs.ExampleTrees.{node_of, a_tree, one_at, sum_at, left_sum, right_sum}
+use Rattle.ix_model.proofs.Widths.{derived_width}
+use Rattle.ix_model.proofs.Inversions.{one_alternative, one_of_two, of_only_rule, only_rule, quoted_is_text, call_is_node, group_is_alternative, none_derived, one_derived, three_derived}
+
+abbrev a_alone : List Term
+a_alone = quoted (codes "a") ∷ []
+
+abbrev s_alone : List Term
+s_alone = call (codes "S") ∷ []
+
+abbrev a_or_b_alts : List Alt
+a_or_b_alts = alternative a_alone ∷ alternative (quoted (codes "b") ∷ []) ∷ []
+
+abbrev sum_terms : List Term
+sum_terms = call (codes "E") ∷ quoted (codes "+") ∷ call (codes "E") ∷ []
+
+abbrev digit_terms : List Term
+digit_terms = quoted (codes "1") ∷ []
+
+abbrev e_rule : Rule
+e_rule = rule (codes "E") (alternative sum_terms ∷ alternative digit_terms ∷ [])
+
+-- the first of some numbers
+abbrev pub first : List ℕ → ℕ
+first [] = 0
+first (x ∷ xs) = x
+
+-- a grammar of one term derives one tree of that term
+pub of_one_term : (t : Term) (s : List ℕ) (d : Tree) → IsDerivation (of_term t) s d → (e : Tree) × (d ≡ node_of 0 0 e) × Derives (of_term t) s e t 0 (length s)
+of_one_term t s d (a, terms, ds, p, o, all) =
+    let x = one_alternative (t ∷ []) a terms (of_only_rule (codes "S") (alternative (t ∷ []) ∷ []) a terms o) in
+    let h = one_derived (of_term t) s ds t 0 (length s) (subst (λ ts. DerivesAll (of_term t) s ds ts 0 (length s)) (sym x.1) all) in
+    (h.0, cc (p, x.0, h.1), h.2)
+
+-- `S: "a".` derives one character
+pub one_a : (s : List ℕ) (d : Tree) → IsDerivation only_a s d → (d ≡ node_of 0 0 (text 0 (length s))) × StandsAt s (codes "a") 0 (length s)
+one_a s d h =
+    let x = of_one_term (quoted (codes "a")) s d h in
+    let y = quoted_is_text only_a s x.0 (codes "a") 0 (length s) x.2 in
+    (cc (x.1, y.0), y.1)
+
+-- the first alternative of `("a"; "b")` does not derive `b`
+pub not_by_a : IsDerivation (of_term (One a_or_b)) (codes "b") (node_of 0 0 (group 0 (and no_tree (text 0 1)))) → ⊥
+not_by_a d =
+    let x = of_one_term (One a_or_b) (codes "b") (node_of 0 0 (group 0 (and no_tree (text 0 1)))) d in
+    let e : x.0 ≡ group 0 (and no_tree (text 0 1)) = cc x.1 in
+    let h : Derives (of_term (One a_or_b)) (codes "b") (group 0 (and no_tree (text 0 1))) (One a_or_b) 0 1 = subst (λ t. Derives (of_term (One a_or_b)) (codes "b") t (One a_or_b) 0 1) e x.2 in
+    let y = group_is_alternative (of_term (One a_or_b)) (codes "b") 0 (and no_tree (text 0 1)) a_or_b_alts 0 1 h in
+    let p : y.0 ≡ a_alone = cc (y.1.1, y.1.2) in
+    let z = one_derived (of_term (One a_or_b)) (codes "b") (and no_tree (text 0 1)) (quoted (codes "a")) 0 1 (subst (λ ts. DerivesAll (of_term (One a_or_b)) (codes "b") (and no_tree (text 0 1)) ts 0 1) p y.2) in
+    let u = quoted_is_text (of_term (One a_or_b)) (codes "b") z.0 (codes "a") 0 1 z.2 in
+    omega (arith, ap first u.1.2)
+
+-- `S: .` derives the empty text
+pub only_empty : (s : List ℕ) (d : Tree) → IsDerivation empty s d → length s ≡ 0
+only_empty s d (a, terms, ds, p, o, all) =
+    let x = one_alternative [] a terms (of_only_rule (codes "S") (alternative [] ∷ []) a terms o) in
+    let y = none_derived empty s ds 0 (length s) (subst (λ ts. DerivesAll empty s ds ts 0 (length s)) (sym x.1) all) in
+    sym y.1
+
+-- `S: "a"; "a".` derives one character, by either alternative
+pub either_a : (s : List ℕ) (d : Tree) → IsDerivation two_ways s d → ((d ≡ node_of 0 0 (text 0 (length s))) ⊎ (d ≡ node_of 0 1 (text 0 (length s)))) × StandsAt s (codes "a") 0 (length s)
+either_a s d (a, terms, ds, p, o, all) = by_number (one_of_two a_alone a_alone a terms (of_only_rule (codes "S") (alternative a_alone ∷ alternative a_alone ∷ []) a terms o))
+  where
+    trees : a_alone ≡ terms → (ds ≡ and no_tree (text 0 (length s))) × StandsAt s (codes "a") 0 (length s)
+    trees e =
+        let h = one_derived two_ways s ds (quoted (codes "a")) 0 (length s) (subst (λ ts. DerivesAll two_ways s ds ts 0 (length s)) (sym e) all) in
+        let y = quoted_is_text two_ways s h.0 (codes "a") 0 (length s) h.2 in
+        (cc (h.1, y.0), y.1)
+
+    by_number : ((a ≡ 0) × (a_alone ≡ terms)) ⊎ ((a ≡ 1) × (a_alone ≡ terms)) → ((d ≡ node_of 0 0 (text 0 (length s))) ⊎ (d ≡ node_of 0 1 (text 0 (length s)))) × StandsAt s (codes "a") 0 (length s)
+    by_number (inl (n, e)) = let x = trees e in (inl (cc (p, n, x.0)), x.1)
+    by_number (inr (n, e)) = let x = trees e in (inr (cc (p, n, x.0)), x.1)
+
+-- `S: S; "a".` derives one character, or what a tree of it derives
+pub around_or_a : (s : List ℕ) (d : Tree) → IsDerivation cycle s d → ((e : Tree) × (d ≡ node_of 0 0 e) × (1 ≤ height e)) ⊎ (d ≡ node_of 0 1 (text 0 (length s)))
+around_or_a s d (a, terms, ds, p, o, all) = by_number (one_of_two s_alone a_alone a terms (of_only_rule (codes "S") (alternative s_alone ∷ alternative a_alone ∷ []) a terms o))
+  where
+    by_number : ((a ≡ 0) × (s_alone ≡ terms)) ⊎ ((a ≡ 1) × (a_alone ≡ terms)) → ((e : Tree) × (d ≡ node_of 0 0 e) × (1 ≤ height e)) ⊎ (d ≡ node_of 0 1 (text 0 (length s)))
+    by_number (inl (n, e)) =
+        let h = one_derived cycle s ds (call (codes "S")) 0 (length s) (subst (λ ts. DerivesAll cycle s ds ts 0 (length s)) (sym e) all) in
+        let y = call_is_node cycle s h.0 (codes "S") 0 (length s) h.2 in
+        inl (h.0, cc (p, n, h.1), subst (λ x. 1 ≤ height x) (sym y.4) (omega arith))
+    by_number (inr (n, e)) =
+        let h = one_derived cycle s ds (quoted (codes "a")) 0 (length s) (subst (λ ts. DerivesAll cycle s ds ts 0 (length s)) (sym e) all) in
+        let y = quoted_is_text cycle s h.0 (codes "a") 0 (length s) h.2 in
+        inr (cc (p, n, h.1, y.0))
+
+-- a derivation of the cycle stands in another
+pub around : (s : List ℕ) (d : Tree) → IsDerivation cycle s d → IsDerivation cycle s (node_of 0 0 d)
+around s d (a, terms, ds, p, o, all) =
+    let whole : Derives cycle s (node 0 a ds) (call (codes "S")) 0 (length s) = ((_, _, refl, (_, refl, refl)), terms, o, all.0, all.1) in
+    (0, _, _, refl, (_, refl, (_, refl, refl)), (refl, (0, _, refl, refl, subst (λ t. Derives cycle s t (call (codes "S")) 0 (length s)) (sym p) whole)))
+
+pub a_derives : IsDerivation only_a (codes "a") a_tree
+a_derives = (0, _, _, refl, (_, refl, (_, refl, refl)), (refl, (0, _, refl, refl, (refl, refl, inl (_, _, refl, (refl, omega arith, refl))))))
+
+pub earlier_derives : IsDerivation two_ways (codes "a") (node_of 0 0 (text 0 1))
+earlier_derives = (0, _, _, refl, (_, refl, (_, refl, refl)), (refl, (0, _, refl, refl, (refl, refl, inl (_, _, refl, (refl, omega arith, refl))))))
+
+pub later_derives : IsDerivation two_ways (codes "a") (node_of 0 1 (text 0 1))
+later_derives = (1, _, _, refl, (_, refl, (_, refl, refl)), (refl, (0, _, refl, refl, (refl, refl, inl (_, _, refl, (refl, omega arith, refl))))))
+
+pub within_derives : IsDerivation cycle (codes "a") (node_of 0 1 (text 0 1))
+within_derives = (1, _, _, refl, (_, refl, (_, refl, refl)), (refl, (0, _, refl, refl, (refl, refl, inl (_, _, refl, (refl, omega arith, refl))))))
+
+-- ---- sums
+
+-- a `+` stands at an odd place of `1+1+1`
+plus_places : (k : ℕ) → StandsAt (codes "1+1+1") (codes "+") k (k + 1) → (k ≡ 1) ⊎ (k ≡ 3)
+plus_places zero (a, b, e) = absurd (omega (arith, ap first e))
+plus_places (suc zero) h = inl refl
+plus_places (suc (suc zero)) (a, b, e) = absurd (omega (arith, ap first e))
+plus_places (suc (suc (suc zero))) h = inr refl
+plus_places (suc (suc (suc (suc zero)))) (a, b, e) = absurd (omega (arith, ap first e))
+plus_places (suc (suc (suc (suc (suc k))))) (a, b, e) = absurd (omega (arith, b))
+
+module _ (s : List ℕ) where
+  abbrev IsE : Tree → ℕ → ℕ → Type 0
+  IsE d i j = Derives sums s d (call (codes "E")) i j
+
+  -- a sum is two sums with a `+` between them
+  abbrev IsSum : Tree → ℕ → ℕ → Type 0
+  IsSum d i j = (k : ℕ) × (e : Tree) × (f : Tree) × (d ≡ sum_at k e f) × IsE e i k × StandsAt s (codes "+") k (k + 1) × IsE f (k + 1) j
+
+  abbrev IsDigit : Tree → ℕ → ℕ → Type 0
+  IsDigit d i j = (d ≡ one_at i) × (i + 1 ≡ j)
+
+  -- what an alternative of E derives
+  of_alternative : (a : ℕ) (ds : Trees) (terms : List Term) (i j : ℕ) → IsOfRule sums 0 a terms → DerivesAll sums s ds terms i j → IsDigit (node 0 a ds) i j ⊎ IsSum (node 0 a ds) i j
+  of_alternative a ds terms i j o all = by_number (one_of_two sum_terms digit_terms a terms (of_only_rule (codes "E") (alternative sum_terms ∷ alternative digit_terms ∷ []) a terms o))
+    where
+      by_number : ((a ≡ 0) × (sum_terms ≡ terms)) ⊎ ((a ≡ 1) × (digit_terms ≡ terms)) → IsDigit (node 0 a ds) i j ⊎ IsSum (node 0 a ds) i j
+      by_number (inl (n, p)) =
+          let h = three_derived sums s ds (call (codes "E")) (quoted (codes "+")) (call (codes "E")) i j (subst (λ ts. DerivesAll sums s ds ts i j) (sym p) all) in
+          let y = quoted_is_text sums s h.3 (codes "+") h.0 h.1 h.7 in
+          let w : h.1 ≡ h.0 + 1 = omega (arith, y.1.0) in
+          inr (h.0, h.2, h.4, cc (n, h.5, y.0, w), h.6, subst (λ (x : ℕ). StandsAt s (codes "+") h.0 x) w y.1, subst (λ (x : ℕ). IsE h.4 x j) w h.8)
+      by_number (inr (n, p)) =
+          let h = one_derived sums s ds (quoted (codes "1")) i j (subst (λ ts. DerivesAll sums s ds ts i j) (sym p) all) in
+          let y = quoted_is_text sums s h.0 (codes "1") i j h.2 in
+          let w : i + 1 ≡ j = omega (arith, y.1.0) in
+          inl (cc (n, h.1, y.0, w), w)
+
+  -- what E derives
+  digit_or_sum : (d : Tree) (i j : ℕ) → IsE d i j → IsDigit d i j ⊎ IsSum d i j
+  digit_or_sum d i j h =
+      let x = call_is_node sums s d (codes "E") i j h in
+      let r : x.0 ≡ 0 = only_rule e_rule x.0 (codes "E") x.5 in
+      let z : d ≡ node 0 x.1 x.2 = cc (x.4, r) in
+      subst (λ t. IsDigit t i j ⊎ IsSum t i j) (sym z) (of_alternative x.1 x.2 x.3 i j (subst (λ (n : ℕ). IsOfRule sums n x.1 x.3) r x.6) x.7)
+
+  wide : (d : Tree) (i j : ℕ) → IsE d i j → i + 1 ≤ j
+  wide d i j h = by_form (digit_or_sum d i j h)
+    where
+      by_form : IsDigit d i j ⊎ IsSum d i j → i + 1 ≤ j
+      by_form (inl x) = omega (arith, x.1)
+      by_form (inr x) = omega (arith, derived_width sums s x.1 (call (codes "E")) i x.0 x.4, derived_width sums s x.2 (call (codes "E")) (x.0 + 1) j x.6)
+
+  -- one character is a digit
+  one_character : (d : Tree) (i j : ℕ) → i + 1 ≡ j → IsE d i j → d ≡ one_at i
+  one_character d i j w h = by_form (digit_or_sum d i j h)
+    where
+      by_form : IsDigit d i j ⊎ IsSum d i j → d ≡ one_at i
+      by_form (inl x) = x.0
+      by_form (inr x) = absurd (omega (arith, w, wide x.1 i x.0 x.4, wide x.2 (x.0 + 1) j x.6))
+
+  -- three characters are a sum of digits
+  three_characters : (d : Tree) (i j : ℕ) → i + 3 ≡ j → IsE d i j → d ≡ sum_at (i + 1) (one_at i) (one_at (i + 2))
+  three_characters d i j w h = by_form (digit_or_sum d i j h)
+    where
+      by_form : IsDigit d i j ⊎ IsSum d i j → d ≡ sum_at (i + 1) (one_at i) (one_at (i + 2))
+      by_form (inl x) = absurd (omega (arith, x.1, w))
+      by_form (inr (k, e, f, p, he, plus, hf)) =
+          let n : k ≡ i + 1 = omega (arith, w, wide e i k he, wide f (k + 1) j hf) in
+          let m : k + 1 ≡ i + 2 = omega (arith, n) in
+          cc (p, n, m, one_character e i k (omega (arith, n)) he, one_character f (k + 1) j (omega (arith, n, w)) hf)
+
+-- `1+1+1` has two sums
+pub left_or_right : (d : Tree) → IsDerivation sums (codes "1+1+1") d → (d ≡ left_sum) ⊎ (d ≡ right_sum)
+left_or_right d (a, terms, ds, p, o, all) = by_form (of_alternative (codes "1+1+1") a ds terms 0 5 o all)
+  where
+    by_place : (k : ℕ) (e f : Tree) → node 0 a ds ≡ sum_at k e f → IsE (codes "1+1+1") e 0 k → IsE (codes "1+1+1") f (k + 1) 5 → (k ≡ 1) ⊎ (k ≡ 3) → (d ≡ left_sum) ⊎ (d ≡ right_sum)
+    by_place k e f q he hf (inl n) =
+        let m : k + 1 ≡ 2 = omega (arith, n) in
+        inr (cc (p, q, n, one_character (codes "1+1+1") e 0 k (omega (arith, n)) he, three_characters (codes "1+1+1") f 2 5 refl (subst (λ (x : ℕ). IsE (codes "1+1+1") f x 5) m hf)))
+    by_place k e f q he hf (inr n) =
+        let m : k + 1 ≡ 4 = omega (arith, n) in
+        inl (cc (p, q, n, three_characters (codes "1+1+1") e 0 k (omega (arith, n)) he, one_character (codes "1+1+1") f 4 5 refl (subst (λ (x : ℕ). IsE (codes "1+1+1") f x 5) m hf)))
+
+    by_form : IsDigit (codes "1+1+1") (node 0 a ds) 0 5 ⊎ IsSum (codes "1+1+1") (node 0 a ds) 0 5 → (d ≡ left_sum) ⊎ (d ≡ right_sum)
+    by_form (inl x) = absurd (omega (arith, x.1))
+    by_form (inr (k, e, f, q, he, plus, hf)) = by_place k e f q he hf (plus_places k plus)
+
+pub left_derives : IsDerivation sums (codes "1+1+1") left_sum
+left_derives = (0, _, _, refl, (_, refl, (_, refl, refl)), (refl, (4, _, (3, _, (0, _, refl, refl, ((_, _, refl, (_, refl, refl)), _, (_, refl, (_, refl, refl)), refl, (2, _, (1, _, (0, _, refl, refl, ((_, _, refl, (_, refl, refl)), _, (_, refl, (_, refl, refl)), refl, (0, _, refl, refl, (refl, refl, inl (_, _, refl, (refl, omega arith, refl)))))), refl, (refl, refl, inl (_, _, refl, (refl, omega arith, refl)))), refl, ((_, _, refl, (_, refl, refl)), _, (_, refl, (_, refl, refl)), refl, (2, _, refl, refl, (refl, refl, inl (_, _, refl, (refl, omega arith, refl)))))))), refl, (refl, refl, inl (_, _, refl, (refl, omega arith, refl)))), refl, ((_, _, refl, (_, refl, refl)), _, (_, refl, (_, refl, refl)), refl, (4, _, refl, refl, (refl, refl, inl (_, _, refl, (refl, omega arith, refl))))))))
+
+pub right_derives : IsDerivation sums (codes "1+1+1") right_sum
+right_derives = (0, _, _, refl, (_, refl, (_, refl, refl)), (refl, (2, _, (1, _, (0, _, refl, refl, ((_, _, refl, (_, refl, refl)), _, (_, refl, (_, refl, refl)), refl, (0, _, refl, refl, (refl, refl, inl (_, _, refl, (refl, omega arith, refl)))))), refl, (refl, refl, inl (_, _, refl, (refl, omega arith, refl)))), refl, ((_, _, refl, (_, refl, refl)), _, (_, refl, (_, refl, refl)), refl, (4, _, (3, _, (2, _, refl, refl, ((_, _, refl, (_, refl, refl)), _, (_, refl, (_, refl, refl)), refl, (2, _, refl, refl, (refl, refl, inl (_, _, refl, (refl, omega arith, refl)))))), refl, (refl, refl, inl (_, _, refl, (refl, omega arith, refl)))), refl, ((_, _, refl, (_, refl, refl)), _, (_, refl, (_, refl, refl)), refl, (4, _, refl, refl, (refl, refl, inl (_, _, refl, (refl, omega arith, refl))))))))))
+
+-- ---- first derivations
+
+pub a_is_first : First only_a (codes "a") a_tree
+a_is_first = (a_derives, λ e h n. absurd (n (one_a (codes "a") e h).0))
+
+pub earlier_is_first : First two_ways (codes "a") (node_of 0 0 (text 0 1))
+earlier_is_first = (earlier_derives, λ e h n. by_tree e n (either_a (codes "a") e h).0)
+  where
+    by_tree : (e : Tree) → e ≢ node_of 0 0 (text 0 1) → (e ≡ node_of 0 0 (text 0 1)) ⊎ (e ≡ node_of 0 1 (text 0 1)) → Before (node_of 0 0 (text 0 1)) e 1
+    by_tree e n (inl p) = absurd (n p)
+    by_tree e n (inr p) = subst (λ t. Before (node_of 0 0 (text 0 1)) t 1) (sym p) (inr (refl, inl (omega arith)))
+
+pub later_is_not_first : First two_ways (codes "a") (node_of 0 1 (text 0 1)) → ⊥
+later_is_not_first h = before_is_absurd (h.1 (node_of 0 0 (text 0 1)) earlier_derives (λ e. cc e))
+  where
+    before_is_absurd : Before (node_of 0 1 (text 0 1)) (node_of 0 0 (text 0 1)) 1 → ⊥
+    before_is_absurd b = grind (arith, b)
+
+pub within_is_first : First cycle (codes "a") (node_of 0 1 (text 0 1))
+within_is_first = (within_derives, λ e h n. by_tree e n (around_or_a (codes "a") e h))
+  where
+    by_tree : (e : Tree) → e ≢ node_of 0 1 (text 0 1) → ((d : Tree) × (e ≡ node_of 0 0 d) × (1 ≤ height d)) ⊎ (e ≡ node_of 0 1 (text 0 1)) → Before (node_of 0 1 (text 0 1)) e 1
+    by_tree e n (inl (d, p, w)) = subst (λ t. Before (node_of 0 1 (text 0 1)) t 1) (sym p) (inl (omega (arith, w)))
+    by_tree e n (inr p) = absurd (n p)
+
+pub around_is_not_first : (d : Tree) → First cycle (codes "a") (node_of 0 0 d) → ⊥
+around_is_not_first d h = by_tree (around_or_a (codes "a") (node_of 0 0 d) h.0)
+  where
+    before : Before (node_of 0 0 d) (node_of 0 1 (text 0 1)) 1
+    before = h.1 (node_of 0 1 (text 0 1)) within_derives (λ e. cc e)
+
+    by_tree : ((e : Tree) × (node_of 0 0 d ≡ node_of 0 0 e) × (1 ≤ height e)) ⊎ (node_of 0 0 d ≡ node_of 0 1 (text 0 1)) → ⊥
+    by_tree (inl (e, p, w)) =
+        let q : d ≡ e = cc p in
+        let v : 1 ≤ height d = subst (λ t. 1 ≤ height t) (sym q) w in
+        by_height v before
+      where
+        by_height : 1 ≤ height d → Before (node_of 0 0 d) (node_of 0 1 (text 0 1)) 1 → ⊥
+        by_height v (inl x) = omega (arith, v, x)
+        by_height v (inr x) = omega (arith, v, x.0)
+    by_tree (inr p) = cc p
+
+pub right_is_first : First sums (codes "1+1+1") right_sum
+right_is_first = (right_derives, λ e h n. by_tree e n (left_or_right e h))
+  where
+    by_tree : (e : Tree) → e ≢ right_sum → (e ≡ left_sum) ⊎ (e ≡ right_sum) → Before right_sum e 5
+    by_tree e n (inl p) = subst (λ t. Before right_sum t 5) (sym p) (inr (refl, inr (refl, inl (omega arith))))
+    by_tree e n (inr p) = absurd (n p)
+
+pub left_is_not_first : First sums (codes "1+1+1") left_sum → ⊥
+left_is_not_first h = before_is_absurd (h.1 right_sum right_derives (λ e. cc e))
+  where
+    before_is_absurd : Before left_sum right_sum 5 → ⊥
+    before_is_absurd b = grind (arith, b)

@@ -1,0 +1,7 @@
+//! Worked examples of the definitions, each proved: what holds, and beside it what does not.
+
+pub mod derivations;
+pub mod documents;
+pub mod order;
+pub mod places;
+pub mod terminals;

@@ -1,0 +1,32 @@
+ghost use Rattle.std.specs.Prelude.{List, [], ◌∷◌, codes};
+ghost use Rattle.ix_model.specs.declared.grammar.Term.{Term, One};
+ghost use Rattle.ix_model.specs.Written.{IsNamed, IsOfRule};
+ghost use Rattle.ix_model.specs.Plain.{IsPlain, ArePlain};
+ghost use Rattle.ix_model.specs.Laws.{HasUniqueNames};
+ghost use Rattle.ix_model.specs.ExampleGrammars.{quoted, deleted, call, only_a, sums, hidden, same_names};
+
+/// Rules, alternatives and terms are counted from 0.
+pub fn counted_from_zero()
+    ensures named { IsNamed hidden 1 (codes "h") }
+    ensures other_name { ¬ (IsNamed hidden 1 (codes "g")) }
+    ensures no_rule { (name : List _) → ¬ (IsNamed hidden 4 name) }
+    ensures terms { IsOfRule sums 0 1 (quoted (codes "1") ∷ []) }
+    ensures other_terms { ¬ (IsOfRule sums 0 0 (quoted (codes "1") ∷ [])) }
+    ensures no_alternative { (terms : List Term) → ¬ (IsOfRule sums 0 2 terms) }
+{}
+
+/// Where two rules have one name, names are not unique.
+pub fn unique_names()
+    ensures one { HasUniqueNames only_a }
+    ensures four { HasUniqueNames hidden }
+    ensures two { ¬ (HasUniqueNames same_names) }
+{}
+
+/// A plain term is a literal in quotes without a mark.
+pub fn plain_terms()
+    ensures literal { IsPlain (quoted (codes "a")) }
+    ensures mark { ¬ (IsPlain (One (deleted (codes "a")))) }
+    ensures call { ¬ (IsPlain (call (codes "a"))) }
+    ensures both { ArePlain (quoted (codes "a") ∷ quoted [] ∷ []) }
+    ensures not_both { ¬ (ArePlain (quoted (codes "a") ∷ call (codes "a") ∷ [])) }
+{}
