@@ -41,3 +41,20 @@ impl Text {
         self.chars == other.chars
     }
 }
+
+#[cfg(test)]
+mod tests {
+    use super::*;
+    use std::test::Fail;
+
+    #[test]
+    fn text_keeps_characters(rt: HostRuntime) -> Result<(), Fail> {
+        let text = Text::from_slice(rt.alloc(), &['n', 'é', '𝔸'])?;
+        let shorter = Text::from_slice(rt.alloc(), &['n', 'é'])?;
+        assert_eq!(rt; text.as_slice(), ['n', 'é', '𝔸'].as_slice());
+        assert!(rt; text.is_same(&text.clone()?), "the same characters");
+        assert!(rt; !text.is_same(&shorter), "one character less");
+        assert!(rt; !shorter.is_same(&text), "one character more");
+        Ok(())
+    }
+}
