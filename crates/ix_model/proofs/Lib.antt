@@ -4,6 +4,7 @@ pub mod Forms
 pub mod Inversions
 pub mod Lines
 pub mod Once
+pub mod Roots
 pub mod SmallTexts
 pub mod Total
 pub mod Widths

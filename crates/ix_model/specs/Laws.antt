@@ -1,10 +1,11 @@
 -- Laws of derivations and of their order.
-use Rattle.std.specs.Prelude.{◌≡◌, ◌⊎◌, ℕ, ◌+◌, List}
+use Rattle.std.specs.Prelude.{◌≡◌, ◌⊎◌, ◌↔◌, ℕ, ◌+◌, List, length, None}
 use Rattle.ix_model.specs.declared.grammar.Grammar.{Grammar}
-use Rattle.ix_model.specs.declared.grammar.Term.{Term}
+use Rattle.ix_model.specs.declared.grammar.Term.{Term, One}
+use Rattle.ix_model.specs.declared.grammar.Factor.{Call}
 use Rattle.ix_model.specs.Written.{IsNamed}
 use Rattle.ix_model.specs.Trees.{Tree, width}
-use Rattle.ix_model.specs.Derives.{Derives}
+use Rattle.ix_model.specs.Derives.{Derives, IsDerivation}
 use Rattle.ix_model.specs.Order.{Before, First}
 
 -- no two rules have one name
@@ -14,6 +15,12 @@ HasUniqueNames g = (r q : ℕ) (name : List ℕ) → IsNamed g r name → IsName
 -- a tree is as wide as each span that it derives
 abbrev pub WidthIsSpan : Type 0
 WidthIsSpan = (g : Grammar) (s : List ℕ) (d : Tree) (t : Term) (i j : ℕ) → Derives g s d t i j → i + width d ≡ j
+
+-- the derivations of a text are the trees that derive it from a call of the first rule
+abbrev pub RootIsCall : Type 0
+RootIsCall =
+    (g : Grammar) (s name : List ℕ) (d : Tree) → HasUniqueNames g → IsNamed g 0 name →
+    IsDerivation g s d ↔ Derives g s d (One (Call None name)) 0 (length s)
 
 -- of two derivations of one term over one span, they are equal or one is before the other
 abbrev pub OrderIsTotal : Type 0

@@ -1,9 +1,14 @@
 //! Laws of derivations and of their order. Each function's contract is the law; the bodies are empty.
-ghost use Rattle.ix_model.specs.Laws.{FirstIsOne, OrderIsAsymmetric, OrderIsTotal, WidthIsSpan};
+ghost use Rattle.ix_model.specs.Laws.{FirstIsOne, OrderIsAsymmetric, OrderIsTotal, RootIsCall, WidthIsSpan};
 
 /// A tree is as wide as each span that it derives.
 pub fn width_is_span()
     ensures { WidthIsSpan }
+{}
+
+/// The derivations of a text are the trees that derive it from a call of the first rule.
+pub fn root_is_call()
+    ensures { RootIsCall }
 {}
 
 /// Of two derivations of one term over one span, they are equal or one is before the other.
