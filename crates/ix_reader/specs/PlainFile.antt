@@ -40,11 +40,11 @@ IsName name = (name ≢ []) × AllByRecursion (λ b. IsTrue (is_letter b)) name
 abbrev pub IsLiteral : List ℕ → Type 0
 IsLiteral text = (text ≢ []) × AllByRecursion (λ b. IsTrue (is_plain b)) text
 
--- each literal of the alternative is one
+-- each text of the alternative is that of a literal
 abbrev pub IsAlternative : PlainAlt → Type 0
 IsAlternative a = IsLiteral a.first × AllByRecursion IsLiteral a.more
 
--- the name, and each alternative of the file, is one
+-- the name of the file is a name, and each of its alternatives is one
 pub record IsFile (f : PlainFile) : Type 0 where
   pub name : IsName f.name
   pub first : IsAlternative f.first
