@@ -5,6 +5,7 @@ pub mod Inversions
 pub mod Lines
 pub mod Once
 pub mod Roots
+pub mod Runs
 pub mod SmallTexts
 pub mod Total
 pub mod Widths

@@ -1,0 +1,11 @@
+pub mod Answered
+pub mod Form
+pub mod Lines
+pub mod Loaded
+pub mod Once
+pub mod PlainText
+pub mod Refused
+pub mod Reply
+pub mod Says
+pub mod Unread
+pub mod Written

@@ -1,0 +1,19 @@
+//! The command: words in, and a document, an exit status and at most one line out.
+//!
+//! [`run_alone`] is the whole of it, over any files and sinks. Its contract is the theorem of this project: what it
+//! writes and answers is what the definitions say of the grammar and the text.
+#![tactic(auto)]
+
+mod answer;
+mod document;
+mod load;
+mod plain;
+mod run;
+mod search;
+mod words;
+
+pub use answer::{message, refuse, Answer};
+pub use run::run_alone;
+
+#[cfg(test)]
+mod tests;

@@ -1,0 +1,144 @@
+ghost use Rattle.std.specs.Prelude.{◌≡◌, IfOk, IsTrue};
+ghost use Rattle.ix_edge.specs.Entries.{names_differ};
+
+use crate::{message, run_alone, Answer};
+use ix_edge::{Entry, Files, MemFiles, MemSink, Sink, SureFiles};
+use std::alloc::{AllocError, Global};
+use std::test::Fail;
+
+const NOT_BUILT: &[u8] = b"ixml: not built yet\n";
+
+fn entries(alloc: Global, grammar: &[u8], text: &[u8]) -> Result<Vec<Entry>, AllocError>
+    ensures { IfOk result (λ v. IsTrue (names_differ v.items)) }
+{
+    let mut entries = Vec::new(alloc);
+    entries.push(Entry {
+        name: String::from_str(alloc, "g")?,
+        bytes: Vec::from_slice(alloc, grammar)?,
+        faults: 0,
+    })?;
+    entries.push(Entry {
+        name: String::from_str(alloc, "t")?,
+        bytes: Vec::from_slice(alloc, text)?,
+        faults: 0,
+    })?;
+    Ok(entries)
+}
+
+fn words(alloc: Global, line: &str) -> Result<Vec<String>, AllocError> {
+    let mut words = Vec::new(alloc);
+    for word in line.split_whitespace() {
+        words.push(String::from_str(alloc, word)?)?;
+    }
+    Ok(words)
+}
+
+#[test]
+fn answers_a_grammar_and_a_text(rt: HostRuntime) -> Result<(), Fail> {
+    let alloc = rt.alloc();
+    for (grammar, text, status, written, line) in [
+        ("S: \"a\".", "a", 0, b"<S>a</S>\n".as_slice(), b"".as_slice()),
+        ("S: \"x\"; \"y\", \"&\".\n", "y&", 0, b"<S>y&amp;</S>\n".as_slice(), b"".as_slice()),
+        ("list: \"<\", \"b>\".", "<b>", 0, b"<list>&lt;b&gt;</list>\n".as_slice(), b"".as_slice()),
+        ("S: \"a\"; \"a\".", "a", 10, b"".as_slice(), NOT_BUILT),
+        ("S: \"ab\"; \"a\", \"b\".", "ab", 10, b"".as_slice(), NOT_BUILT),
+        ("S: \"a\".", "b", 10, b"".as_slice(), NOT_BUILT),
+        ("S: \"a\".", "", 10, b"".as_slice(), NOT_BUILT),
+        ("S: \"a\".", "a\n", 10, b"".as_slice(), NOT_BUILT),
+        ("S: S; \"a\".", "a", 10, b"".as_slice(), NOT_BUILT),
+    ] {
+        let mut files = SureFiles::new(entries(alloc, grammar.as_bytes(), text.as_bytes())?);
+        let mut out = MemSink::new(alloc, 64, Vec::new(alloc), 0)?;
+        let mut msg = MemSink::new(alloc, 128, Vec::new(alloc), 0)?;
+        let words = words(alloc, "parse g t")?;
+        let got = run_alone(alloc, &words, &mut files, &mut out, &mut msg);
+        assert_eq!(rt; got, status, "{grammar} on {text}");
+        assert_eq!(rt; out.bytes(), written, "{grammar} on {text}");
+        assert_eq!(rt; msg.bytes(), line, "{grammar} on {text}");
+    }
+    Ok(())
+}
+
+const WORDS: &[u8] =
+    b"ixml: use parse GRAMMAR TEXT [--workers N], check GRAMMAR or sample N [--workers N]\n";
+
+#[test]
+fn refuses_words_of_no_form(rt: HostRuntime) -> Result<(), Fail> {
+    let alloc = rt.alloc();
+    for line in [
+        "",
+        "parse",
+        "parse g",
+        "parse g t t",
+        "Parse g t",
+        "parse - t",
+        "parse g -t",
+        "check g",
+        "--help",
+    ] {
+        let mut files = SureFiles::new(entries(alloc, b"S: \"a\".", b"a")?);
+        let mut out = MemSink::new(alloc, 64, Vec::new(alloc), 0)?;
+        let mut msg = MemSink::new(alloc, 128, Vec::new(alloc), 0)?;
+        let words = words(alloc, line)?;
+        assert_eq!(rt; run_alone(alloc, &words, &mut files, &mut out, &mut msg), 2, "{line}");
+        assert_eq!(rt; out.bytes(), b"".as_slice(), "{line}");
+        assert_eq!(rt; msg.bytes(), WORDS, "{line}");
+    }
+    Ok(())
+}
+
+// Each row: the words, the load that is to fail, the line, and the counts of `g` and of all missing names.
+#[test]
+fn names_a_file_that_cannot_be_read(rt: HostRuntime) -> Result<(), Fail> {
+    let alloc = rt.alloc();
+    for (line, fails, told, counts) in [
+        ("parse h t", 9, b"ixml: cannot read h\n".as_slice(), [0, 1]),
+        ("parse g u", 9, b"ixml: cannot read u\n".as_slice(), [0, 1]),
+        ("parse g t", 0, b"ixml: cannot read g\n".as_slice(), [1, 0]),
+        ("parse g t", 1, b"ixml: cannot read t\n".as_slice(), [0, 0]),
+    ] {
+        let mut files = MemFiles::new(entries(alloc, b"S: \"a\".", b"a")?, vec![in alloc; fails]?);
+        let mut out = MemSink::new(alloc, 64, Vec::new(alloc), 0)?;
+        let mut msg = MemSink::new(alloc, 128, Vec::new(alloc), 0)?;
+        let words = words(alloc, line)?;
+        assert_eq!(rt; run_alone(alloc, &words, &mut files, &mut out, &mut msg), 7, "{line}");
+        assert_eq!(rt; out.bytes(), b"".as_slice(), "{line}");
+        assert_eq!(rt; msg.bytes(), told, "{line}");
+        assert_eq!(rt; [files.faults("g"), files.faults("?")], counts, "{line}");
+    }
+    Ok(())
+}
+
+#[test]
+fn tells_a_write_that_fails(rt: HostRuntime) -> Result<(), Fail> {
+    let alloc = rt.alloc();
+    let mut files = SureFiles::new(entries(alloc, b"S: \"a\".", b"a")?);
+    let mut out = MemSink::new(alloc, 64, vec![in alloc; 0]?, 4)?;
+    let mut msg = MemSink::new(alloc, 128, Vec::new(alloc), 0)?;
+    let words = words(alloc, "parse g t")?;
+    assert_eq!(rt; run_alone(alloc, &words, &mut files, &mut out, &mut msg), 8);
+    assert_eq!(rt; out.bytes(), b"<S>a".as_slice());
+    assert_eq!(rt; out.faults(), 1);
+    assert_eq!(rt; msg.bytes(), b"ixml: cannot write\n".as_slice());
+    Ok(())
+}
+
+#[test]
+fn a_failing_message_changes_nothing(rt: HostRuntime) -> Result<(), Fail> {
+    let alloc = rt.alloc();
+    let mut files = SureFiles::new(entries(alloc, b"S: \"a\".", b"b")?);
+    let mut out = MemSink::new(alloc, 64, Vec::new(alloc), 0)?;
+    let mut msg = MemSink::new(alloc, 128, vec![in alloc; 0]?, 4)?;
+    let words = words(alloc, "parse g t")?;
+    assert_eq!(rt; run_alone(alloc, &words, &mut files, &mut out, &mut msg), 10);
+    assert_eq!(rt; out.bytes(), b"".as_slice());
+    assert_eq!(rt; msg.bytes(), b"ixml".as_slice());
+    Ok(())
+}
+
+#[test]
+fn makes_the_line_of_want_of_memory(rt: HostRuntime) -> Result<(), Fail> {
+    let line = message(rt.alloc(), &Answer::Memory)?;
+    assert_eq!(rt; line.as_slice(), b"ixml: out of memory\n".as_slice());
+    Ok(())
+}
