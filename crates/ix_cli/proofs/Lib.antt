@@ -1,7 +1,9 @@
 pub mod Alternatives
 pub mod Lists
 pub mod LoadedFiles
+pub mod OneReply
 pub mod PlainGrammars
 pub mod PlainTrees
 pub mod Replies
+pub mod SmallReplies
 pub mod Statuses

@@ -1,5 +1,7 @@
 pub mod Answered
+pub mod Examples
 pub mod Form
+pub mod Laws
 pub mod Lines
 pub mod Loaded
 pub mod Once

@@ -6,6 +6,7 @@
 
 mod answer;
 mod document;
+pub mod laws;
 mod load;
 mod plain;
 mod run;

@@ -1,0 +1,8 @@
+use Rattle.ix_cli.proofs.SmallReplies.{no_derivation, two_derivations}
+use Rattle.ix_cli.proofs.laws.texts_that_are_refused.Goals as goal
+
+pub returns-clause-none : goal.returns-clause-none
+returns-clause-none c = no_derivation
+
+pub returns-clause-two : goal.returns-clause-two
+returns-clause-two c = two_derivations

@@ -1,0 +1,52 @@
+//! Laws of the definitions that the command's contract speaks of. Each function's contract is the law; the bodies are
+//! empty.
+ghost use Rattle.std.specs.Prelude.{[], ◌∷◌, Some, codes};
+ghost use Rattle.ix_cli.specs.Examples.{parse_g_t, holding, one_way, two_ways, raised, no_count};
+ghost use Rattle.ix_cli.specs.Form.{HasForm, HasSomeForm};
+ghost use Rattle.ix_cli.specs.Laws.{ReplyIsOne};
+ghost use Rattle.ix_cli.specs.PlainText.{IsPlainText};
+ghost use Rattle.ix_cli.specs.Reply.{document, no_form, not_built, IsReply};
+ghost use Rattle.ix_cli.specs.Unread.{IsUnread};
+
+/// The table has at most one answer for the words and the files.
+pub fn reply_is_one()
+    ensures { ReplyIsOne }
+{}
+
+/// `parse g t` has the form; without `t`, with `-t` and with another first word it has none.
+pub fn words_with_a_form()
+    ensures form { HasForm (codes "parse" ∷ codes "g" ∷ codes "t" ∷ []) (codes "g") (codes "t") }
+    ensures one_name { ¬ (HasSomeForm (codes "parse" ∷ codes "g" ∷ [])) }
+    ensures dash { ¬ (HasSomeForm (codes "parse" ∷ codes "g" ∷ codes "-t" ∷ [])) }
+    ensures other_word { ¬ (HasSomeForm (codes "check" ∷ codes "g" ∷ codes "t" ∷ [])) }
+{}
+
+/// A space and a tilde are answered, a line feed and a letter beyond ASCII are not.
+pub fn texts_that_are_answered()
+    ensures printable { IsPlainText (codes " ~") }
+    ensures line_feed { ¬ (IsPlainText (10 ∷ [])) }
+    ensures beyond_ascii { ¬ (IsPlainText (0xC3 ∷ 0xA9 ∷ [])) }
+{}
+
+/// `S: "a".` on `a` is answered by the document `<S>a</S>`, and by nothing else.
+pub fn one_literal_is_answered()
+    ensures answer { IsReply parse_g_t (holding one_way (codes "a")) (document (codes "<S>a</S>\n")) }
+    ensures not_refused { ¬ (IsReply parse_g_t (holding one_way (codes "a")) not_built) }
+    ensures not_cut_off { ¬ (IsReply parse_g_t (holding one_way (codes "a")) (document (codes "<S>a</S>"))) }
+{}
+
+/// `S: "a".` on `b` has no derivation, and `S: "a"; "a".` on `a` has two: neither is answered.
+pub fn texts_that_are_refused()
+    ensures none { IsReply parse_g_t (holding one_way (codes "b")) not_built }
+    ensures two { IsReply parse_g_t (holding two_ways (codes "a")) not_built }
+    ensures no_words { IsReply [] (holding one_way (codes "a")) no_form }
+    ensures not_words { ¬ (IsReply [] (holding one_way (codes "a")) not_built) }
+{}
+
+/// A grammar whose count rose is unread, a file that the words do not name never is.
+pub fn files_that_are_unread()
+    ensures grammar { IsUnread parse_g_t (Some (holding [] [])) no_count (raised (codes "g")) (codes "g") }
+    ensures not_raised { ¬ (IsUnread parse_g_t (Some (holding [] [])) no_count no_count (codes "g")) }
+    ensures text_before_grammar { ¬ (IsUnread parse_g_t (Some (holding [] [])) no_count (raised (codes "t")) (codes "t")) }
+    ensures not_named { ¬ (IsUnread parse_g_t (Some (holding [] [])) no_count (raised (codes "x")) (codes "x")) }
+{}
