@@ -1,7 +1,7 @@
 -- Files in memory: which of their loads fail, and which counts rise then.
-use Rattle.std.specs.Prelude.{◌≡◌, ℕ, Bool, true, false, List, not, ◌||◌, ◌==◌, if◌then◌else◌, Result, Ok, Err}
+use Rattle.std.specs.Prelude.{◌≡◌, ℕ, Bool, List, not, ◌||◌, ◌==◌, if◌then◌else◌, Result, Ok, Err}
 use Rattle.std.specs.List.{list_any}
-use Rattle.ix_edge.specs.Causes.{one_more}
+use Rattle.ix_edge.specs.Causes.{one_more, has_failed}
 use Rattle.ix_edge.specs.Counts.{has_name, count_in, raised_count}
 use Rattle.ix_edge.specs.declared.entry.Entry.{Entry}
 use Rattle.ix_edge.specs.declared.fault.LoadFault.{LoadFault}
@@ -27,12 +27,6 @@ missing_of f = f.missing
 -- whether the next load, of this name, fails: by its number, or since the name is missing
 abbrev pub is_to_fail : MemFiles → List ℕ → Bool
 is_to_fail f name = list_any (λ n. n == loads_of f) (fails_of f) || not (has_name (entries_of f) name)
-
--- whether a load failed
-abbrev pub has_failed : {V : Type 0} → Result V LoadFault → Bool
-has_failed (Ok _) = false
-has_failed (Err Failed) = true
-has_failed (Err Memory) = false
 
 -- the number of the next load after one with this result; a load that had no memory leaves it
 abbrev pub number_after : {V : Type 0} → Result V LoadFault → ℕ → ℕ
