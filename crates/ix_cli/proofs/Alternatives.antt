@@ -42,6 +42,7 @@ module _ (g : Grammar) (s : List ℕ) (alts : List Alt) where
       more : (n : ℕ) → ((m : ℕ) → m < k → DerivesAs g s alts m → m ≡ n) → (m : ℕ) → m < k + 1 → DerivesAs g s alts m → (m < k) ⊎ (k ≤ m) → m ≡ n
       more n below m l h (inl b) = below m b h
       more n below m l h (inr at) = absurd (never (subst (DerivesAs g s alts) (omega arith) h))
+
       rest : ((m : ℕ) → m < k → DerivesAs g s alts m → ⊥) → (m : ℕ) → m < k + 1 → DerivesAs g s alts m → (m < k) ⊎ (k ≤ m) → ⊥
       rest below m l h (inl b) = below m b h
       rest below m l h (inr at) = never (subst (DerivesAs g s alts) (omega arith) h)

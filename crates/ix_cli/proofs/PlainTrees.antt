@@ -122,16 +122,16 @@ module _ (g : Grammar) (s : List ℕ) where
       let forward : h.0 ≤ j = matches_forward h.1 h.0 j (plain_tree g s d h.1 h.0 j plain h.4) in
       let rest = plain_texts terms p ds h.0 h.2 in
       let last : bare g d (get_or terms (tree_count ds) no_term) ≡ more (bare_text h.0 j true) none =
-          ap₂ (bare g) (plain_text d h.1 h.0 j plain h.4) (get_found terms (tree_count ds) h.1 no_term h.3)
-          ∙ bare_plain h.1 h.0 j plain in
+      ap₂ (bare g) (plain_text d h.1 h.0 j plain h.4) (get_found terms (tree_count ds) h.1 no_term h.3)
+      ∙ bare_plain h.1 h.0 j plain in
       let both : bare_all g (and ds d) terms ≡ join (bare_all g ds terms) (more (bare_text h.0 j true) none) =
-          ap (join (bare_all g ds terms)) last in
+      ap (join (bare_all g ds terms)) last in
       subst (λ bs. AreTexts bs × (values s bs ≡ take j s)) (sym both) (
         AreTexts-join (bare_all g ds terms) (more (bare_text h.0 j true) none) rest.0 tt,
         values-join s (bare_all g ds terms) (more (bare_text h.0 j true) none)
-        ∙ ap₂ (λ xs ys. xs ++ ys) rest.1 (append-nil (take (j - h.0) (drop h.0 s)))
-        ∙ sym (take-add h.0 (j - h.0) s)
-        ∙ ap (λ (n : ℕ). take n s) (omega (arith, forward)),
+            ∙ ap₂ (λ xs ys. xs ++ ys) rest.1 (append-nil (take (j - h.0) (drop h.0 s)))
+            ∙ sym (take-add h.0 (j - h.0) s)
+            ∙ ap (λ (n : ℕ). take n s) (omega (arith, forward)),
       )
 
   -- a derivation gives one element: the rule's name, and the whole text in one run
@@ -140,14 +140,14 @@ module _ (g : Grammar) (s : List ℕ) where
       let found = first_rule rule plain in
       let alternative = alternative_of rule plain d h in
       let terms : terms_at (rule_alts g 0) h.0 ≡ h.1 =
-          ap (λ o. terms_at (unwrap_or (option_map (λ (r : Rule). r.alts) o) []) h.0) found
-          ∙ ap (λ o. unwrap_or (option_map (λ (alt : Alt). alt.terms) o) []) alternative.1
-          ∙ alternative.2 in
+      ap (λ o. terms_at (unwrap_or (option_map (λ (r : Rule). r.alts) o) []) h.0) found
+      ∙ ap (λ o. unwrap_or (option_map (λ (alt : Alt). alt.terms) o) []) alternative.1
+      ∙ alternative.2 in
       let texts = plain_texts h.1 (plain_terms rule plain h.0 h.1 alternative) h.2 (length s) h.5.1 in
       let content : gives_all s (bare_all g h.2 (terms_at (rule_alts g 0) h.0)) ≡ put_run s nothing =
-          ap (λ ts. gives_all s (bare_all g h.2 ts)) terms
-          ∙ gives_all-texts s (bare_all g h.2 h.1) texts.0
-          ∙ ap (λ cs. put_run cs nothing) (texts.1 ∙ take-length s) in
+      ap (λ ts. gives_all s (bare_all g h.2 ts)) terms
+      ∙ gives_all-texts s (bare_all g h.2 h.1) texts.0
+      ∙ ap (λ cs. put_run cs nothing) (texts.1 ∙ take-length s) in
       let mark : rule_mark g 0 ≡ None = ap (option_and_then (λ (r : Rule). r.mark)) found ∙ plain.1 in
       let name : rule_name g 0 ≡ rule.name = ap (λ o. unwrap_or (option_map (λ (r : Rule). r.name) o) []) found in
       let inner = bare_all g h.2 (terms_at (rule_alts g 0) h.0) in

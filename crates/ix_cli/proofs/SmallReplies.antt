@@ -31,16 +31,30 @@ abbrev two_ways_file : PlainFile
 two_ways_file = record { name = codes "S"; first = record { first = codes "a"; more = [] }; more = record { first = codes "a"; more = [] } ∷ [] }
 
 spells_one_way : SpellsPlain one_way grammars.only_a
-spells_one_way = (one_way_file, [], record {
-  is_file = record { name = (some_byte 83 [], (refl, tt)); first = ((some_byte 97 [], (refl, tt)), tt); more = tt };
-  is_end = inl refl; few = omega arith; spelled = refl; grammar = refl;
-})
+spells_one_way = (
+  one_way_file,
+  [],
+  record {
+    is_file = record { name = (some_byte 83 [], (refl, tt)); first = ((some_byte 97 [], (refl, tt)), tt); more = tt };
+    is_end = inl refl;
+    few = omega arith;
+    spelled = refl;
+    grammar = refl;
+  },
+)
 
 spells_two_ways : SpellsPlain two_ways grammars.two_ways
-spells_two_ways = (two_ways_file, [], record {
-  is_file = record { name = (some_byte 83 [], (refl, tt)); first = ((some_byte 97 [], (refl, tt)), tt); more = (((some_byte 97 [], (refl, tt)), tt), tt) };
-  is_end = inl refl; few = omega arith; spelled = refl; grammar = refl;
-})
+spells_two_ways = (
+  two_ways_file,
+  [],
+  record {
+    is_file = record { name = (some_byte 83 [], (refl, tt)); first = ((some_byte 97 [], (refl, tt)), tt); more = (((some_byte 97 [], (refl, tt)), tt), tt) };
+    is_end = inl refl;
+    few = omega arith;
+    spelled = refl;
+    grammar = refl;
+  },
+)
 
 only_a_is_plain : HasPlainRule grammars.only_a (grammars.rule (codes "S") (grammars.alternative (grammars.quoted (codes "a") ∷ []) ∷ []))
 only_a_is_plain = (refl, refl, (((codes "a", refl), tt), tt))
@@ -53,13 +67,43 @@ pub answered : IsReply parse_g_t (holding one_way (codes "a")) (document (codes 
 answered = inr (codes "g", codes "t", has_form, (one_way, refl, inr (grammars.only_a, spells_one_way, codes "a", refl, (search rules, (a_tree, (a_derives, λ e h. (one_a (codes "a") e h).0), one_document)))))
 
 pub no_derivation : IsReply parse_g_t (holding one_way (codes "b")) not_built
-no_derivation = inr (codes "g", codes "t", has_form, (one_way, refl, inr (grammars.only_a, spells_one_way, codes "b", refl, λ h.
-    absurd (omega (arith, ap first (one_a (codes "b") h.1.0 h.1.1.0).1.2)))))
+no_derivation = inr (
+  codes "g",
+  codes "t",
+  has_form,
+  (
+    one_way,
+    refl,
+    inr (
+      grammars.only_a,
+      spells_one_way,
+      codes "b",
+      refl,
+      λ h.
+          absurd (omega (arith, ap first (one_a (codes "b") h.1.0 h.1.1.0).1.2)),
+    ),
+  ),
+)
 
 pub two_derivations : IsReply parse_g_t (holding two_ways (codes "a")) not_built
-two_derivations = inr (codes "g", codes "t", has_form, (two_ways, refl, inr (grammars.two_ways, spells_two_ways, codes "a", refl, λ h.
-    let same : node_of 0 0 (text 0 1) ≡ node_of 0 1 (text 0 1) = h.1.1.1 _ earlier_derives ∙ sym (h.1.1.1 _ later_derives) in
-    absurd (cc same))))
+two_derivations = inr (
+  codes "g",
+  codes "t",
+  has_form,
+  (
+    two_ways,
+    refl,
+    inr (
+      grammars.two_ways,
+      spells_two_ways,
+      codes "a",
+      refl,
+      λ h.
+          let same : node_of 0 0 (text 0 1) ≡ node_of 0 1 (text 0 1) = h.1.1.1 _ earlier_derives ∙ sym (h.1.1.1 _ later_derives) in
+          absurd (cc same),
+    ),
+  ),
+)
 
 -- the document is the only answer
 pub not_refused : ¬ (IsReply parse_g_t (holding one_way (codes "a")) not_built)

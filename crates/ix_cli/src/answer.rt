@@ -1,6 +1,6 @@
-ghost use Rattle.std.specs.Prelude.{◌≡◌, IfOk};
+ghost use Rattle.std.specs.Prelude.{◌≡◌, IfOk, String, string_bytes};
 ghost use Rattle.ix_cli.specs.Lines.{line_of, status_of, read_line};
-ghost use Rattle.ix_cli.specs.Says.{Refuses};
+ghost use Rattle.ix_cli.specs.Says.{Says, Refuses};
 
 use ix_edge::Sink;
 use std::alloc::{AllocError, Global};
@@ -46,8 +46,11 @@ impl From<AllocError> for Answer {
     }
 }
 
-const WORDS: &[u8] = b"ixml: use parse GRAMMAR TEXT [--workers N], check GRAMMAR or sample N [--workers N]\n";
+const WORDS: &[u8] =
+    b"ixml: use parse GRAMMAR TEXT [--workers N], check GRAMMAR or sample N [--workers N]\n";
+
 const NOT_BUILT: &[u8] = b"ixml: not built yet\n";
+
 const WRITE: &[u8] = b"ixml: cannot write\n";
 /// The line of want of memory. It takes none.
 pub const MEMORY: &[u8] = b"ixml: out of memory\n";
@@ -74,16 +77,25 @@ fn read_message(alloc: Global, name: &str) -> Result<Vec<u8>, AllocError>
 /// Puts the answer's line, and gives its status. Where the line finds no memory, the line and the status are those of
 /// want of memory.
 pub fn refuse<M: Sink>(alloc: Global, answer: &Answer, msg: &mut M) -> u8
-    ensures { Refuses (M.written msg.old) (M.written msg.new) (M.faults msg.old) (M.faults msg.new) answer.now result }
+    ensures line { Refuses (M.written msg.old) (M.written msg.new) (M.faults msg.old) (M.faults msg.new) answer.now result }
+    ensures read { result ≡ 7 → (name : String Global) × (answer.now ≡ Answer.Read name)
+        × Says (M.written msg.old) (M.written msg.new) (M.faults msg.old) (M.faults msg.new) (read_line (string_bytes name)) }
 {
     match message(alloc, answer) {
         Ok(line) => {
-            let _ = msg.put(&line);
+            tell(&line, msg);
             answer.status()
         }
         Err(_) => {
-            let _ = msg.put(MEMORY);
+            tell(MEMORY, msg);
             Answer::Memory.status()
         }
     }
+}
+
+/// Puts a line. Where it can't be put, nothing comes of it.
+pub fn tell<M: Sink>(line: &[u8], msg: &mut M)
+    ensures { Says (M.written msg.old) (M.written msg.new) (M.faults msg.old) (M.faults msg.new) line.now }
+{
+    let _ = msg.put(line);
 }

@@ -13,7 +13,7 @@ mod run;
 mod search;
 mod words;
 
-pub use answer::{message, refuse, Answer};
+pub use answer::{Answer, message, refuse};
 pub use run::run_alone;
 
 #[cfg(test)]

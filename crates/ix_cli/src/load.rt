@@ -9,7 +9,7 @@ use crate::answer::Answer;
 use crate::plain::{characters_of, is_plain_text};
 use ix_edge::{Files, LoadFault};
 use ix_model::Grammar;
-use ix_reader::{read_plain, PlainFault};
+use ix_reader::{PlainFault, read_plain};
 use std::alloc::Global;
 
 // One byte more than a file that is answered has: so a longer file is seen to be longer.

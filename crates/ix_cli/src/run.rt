@@ -1,7 +1,7 @@
-ghost use Rattle.std.specs.Prelude.{◌≡◌, ◌≢◌, ◌⊎◌, ◌≤◌, ℕ, List, [], ◌∷◌, Contains, IfOk, IfErr, IfSome, map, string_bytes};
+ghost use Rattle.std.specs.Prelude.{◌≡◌, ◌≢◌, ◌⊎◌, ◌≤◌, ℕ, List, IfOk, IfErr, IfSome, map, string_bytes};
 ghost use Rattle.std.specs.Io.KnownBytes.{Keeps};
 ghost use Rattle.ix_edge.specs.Causes.{Rose};
-ghost use Rattle.ix_cli.specs.Answered.{IsAnswered, IsCutOff};
+ghost use Rattle.ix_cli.specs.Answered.{IsAnswered, IsCutOff, IsStatus};
 ghost use Rattle.ix_cli.specs.Form.{HasForm, HasSomeForm};
 ghost use Rattle.ix_cli.specs.Lines.{read_line, status_line};
 ghost use Rattle.ix_cli.specs.Refused.{IsRefused};
@@ -10,7 +10,7 @@ ghost use Rattle.ix_cli.specs.Says.{Says};
 ghost use Rattle.ix_cli.specs.Unread.{IsUnread};
 ghost use Rattle.ix_cli.specs.Written.{IsWritten};
 
-use crate::answer::{message, refuse, Answer, MEMORY};
+use crate::answer::{Answer, MEMORY, message, refuse, tell};
 use crate::load::{load_grammar, load_text};
 use crate::plain::only_document;
 use crate::words::operands;
@@ -30,7 +30,7 @@ pub fn run_alone<F: Files, O: Sink, M: Sink>(
     out: &mut O,
     msg: &mut M,
 ) -> u8
-    ensures statuses { Contains (0 ∷ 2 ∷ 7 ∷ 8 ∷ 9 ∷ 10 ∷ []) result }
+    ensures statuses { IsStatus result }
 
     // Status and output are those of the table of answers.
     ensures answered { result ≢ 7 → result ≢ 8 → result ≢ 9 →
@@ -87,13 +87,13 @@ fn write<O: Sink, M: Sink>(alloc: Global, document: &[u8], out: &mut O, msg: &mu
         (M.written msg.old) (M.written msg.new) (M.faults msg.old) (M.faults msg.new) document.now result }
 {
     let Ok(line) = message(alloc, &Answer::Write) else {
-        let _ = msg.put(MEMORY);
+        tell(MEMORY, msg);
         return Answer::Memory.status();
     };
     match out.put(document) {
         Ok(()) => 0,
         Err(_) => {
-            let _ = msg.put(&line);
+            tell(&line, msg);
             Answer::Write.status()
         }
     }

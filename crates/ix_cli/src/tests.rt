@@ -1,7 +1,7 @@
 ghost use Rattle.std.specs.Prelude.{◌≡◌, IfOk, IsTrue};
 ghost use Rattle.ix_edge.specs.Entries.{names_differ};
 
-use crate::{message, run_alone, Answer};
+use crate::{Answer, message, run_alone};
 use ix_edge::{Entry, Files, MemFiles, MemSink, Sink, SureFiles};
 use std::alloc::{AllocError, Global};
 use std::test::Fail;
@@ -37,11 +37,35 @@ fn words(alloc: Global, line: &str) -> Result<Vec<String>, AllocError> {
 fn answers_a_grammar_and_a_text(rt: HostRuntime) -> Result<(), Fail> {
     let alloc = rt.alloc();
     for (grammar, text, status, written, line) in [
-        ("S: \"a\".", "a", 0, b"<S>a</S>\n".as_slice(), b"".as_slice()),
-        ("S: \"x\"; \"y\", \"&\".\n", "y&", 0, b"<S>y&amp;</S>\n".as_slice(), b"".as_slice()),
-        ("list: \"<\", \"b>\".", "<b>", 0, b"<list>&lt;b&gt;</list>\n".as_slice(), b"".as_slice()),
+        (
+            "S: \"a\".",
+            "a",
+            0,
+            b"<S>a</S>\n".as_slice(),
+            b"".as_slice(),
+        ),
+        (
+            "S: \"x\"; \"y\", \"&\".\n",
+            "y&",
+            0,
+            b"<S>y&amp;</S>\n".as_slice(),
+            b"".as_slice(),
+        ),
+        (
+            "list: \"<\", \"b>\".",
+            "<b>",
+            0,
+            b"<list>&lt;b&gt;</list>\n".as_slice(),
+            b"".as_slice(),
+        ),
         ("S: \"a\"; \"a\".", "a", 10, b"".as_slice(), NOT_BUILT),
-        ("S: \"ab\"; \"a\", \"b\".", "ab", 10, b"".as_slice(), NOT_BUILT),
+        (
+            "S: \"ab\"; \"a\", \"b\".",
+            "ab",
+            10,
+            b"".as_slice(),
+            NOT_BUILT,
+        ),
         ("S: \"a\".", "b", 10, b"".as_slice(), NOT_BUILT),
         ("S: \"a\".", "", 10, b"".as_slice(), NOT_BUILT),
         ("S: \"a\".", "a\n", 10, b"".as_slice(), NOT_BUILT),
@@ -80,7 +104,11 @@ fn refuses_words_of_no_form(rt: HostRuntime) -> Result<(), Fail> {
         let mut out = MemSink::new(alloc, 64, Vec::new(alloc), 0)?;
         let mut msg = MemSink::new(alloc, 128, Vec::new(alloc), 0)?;
         let words = words(alloc, line)?;
-        assert_eq!(rt; run_alone(alloc, &words, &mut files, &mut out, &mut msg), 2, "{line}");
+        assert_eq!(rt;
+            run_alone(alloc, &words, &mut files, &mut out, &mut msg),
+            2,
+            "{line}"
+        );
         assert_eq!(rt; out.bytes(), b"".as_slice(), "{line}");
         assert_eq!(rt; msg.bytes(), WORDS, "{line}");
     }
@@ -101,7 +129,11 @@ fn names_a_file_that_cannot_be_read(rt: HostRuntime) -> Result<(), Fail> {
         let mut out = MemSink::new(alloc, 64, Vec::new(alloc), 0)?;
         let mut msg = MemSink::new(alloc, 128, Vec::new(alloc), 0)?;
         let words = words(alloc, line)?;
-        assert_eq!(rt; run_alone(alloc, &words, &mut files, &mut out, &mut msg), 7, "{line}");
+        assert_eq!(rt;
+            run_alone(alloc, &words, &mut files, &mut out, &mut msg),
+            7,
+            "{line}"
+        );
         assert_eq!(rt; out.bytes(), b"".as_slice(), "{line}");
         assert_eq!(rt; msg.bytes(), told, "{line}");
         assert_eq!(rt; [files.faults("g"), files.faults("?")], counts, "{line}");
@@ -130,7 +162,10 @@ fn a_failing_message_changes_nothing(rt: HostRuntime) -> Result<(), Fail> {
     let mut out = MemSink::new(alloc, 64, Vec::new(alloc), 0)?;
     let mut msg = MemSink::new(alloc, 128, vec![in alloc; 0]?, 4)?;
     let words = words(alloc, "parse g t")?;
-    assert_eq!(rt; run_alone(alloc, &words, &mut files, &mut out, &mut msg), 10);
+    assert_eq!(rt;
+        run_alone(alloc, &words, &mut files, &mut out, &mut msg),
+        10
+    );
     assert_eq!(rt; out.bytes(), b"".as_slice());
     assert_eq!(rt; msg.bytes(), b"ixml".as_slice());
     Ok(())

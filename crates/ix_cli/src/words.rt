@@ -8,10 +8,9 @@ pub fn operands(words: &[String]) -> Option<(&str, &str)>
 {
     match words {
         [command, grammar, text]
-            if command.as_str() == "parse" && is_operand(grammar.as_str()) && is_operand(text.as_str()) =>
-        {
-            Some((grammar.as_str(), text.as_str()))
-        }
+            if command.as_str() == "parse"
+                && is_operand(grammar.as_str())
+                && is_operand(text.as_str()) => { Some((grammar.as_str(), text.as_str())) }
         _ => None,
     }
 }

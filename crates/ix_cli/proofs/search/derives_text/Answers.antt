@@ -12,8 +12,8 @@ pub returns-in-None-clause-no : goal.returns-in-None-clause-no
 returns-in-None-clause-no c = λ _ g h.
     let e = get_some c.args.terms.now c.loop-term.term-index c.term-item.result c.loop-term-test.true c.term-item.is in
     stops_here g c.args.text.now c.args.terms.now c.loop-term.term-index c.loop-term.at c.term-item.result
-        (plain_at c.args.terms.now c.loop-term.term-index c.term-item.result c.requires.plain e) e (c.in-None.ensures.none refl) (c.loop-term.invariant.comes g)
-        (length c.args.terms.now - c.loop-term.term-index - 1) h.0 (length c.args.text.now) (omega (arith, h.1.0, c.loop-term-test.true)) h.1.1
+    (plain_at c.args.terms.now c.loop-term.term-index c.term-item.result c.requires.plain e) e (c.in-None.ensures.none refl) (c.loop-term.invariant.comes g)
+    (length c.args.terms.now - c.loop-term.term-index - 1) h.0 (length c.args.text.now) (omega (arith, h.1.0, c.loop-term-test.true)) h.1.1
 
 pub loop-term-preserved : goal.loop-term-preserved
 loop-term-preserved c =

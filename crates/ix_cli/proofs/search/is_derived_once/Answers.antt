@@ -9,8 +9,8 @@ pub returns-then-found-clause-not_once : goal.returns-then-found-clause-not_once
 returns-then-found-clause-not_once c = λ e g n only.
     let at = get_some c.args.alts.now c.loop-alt.alt-index c.alt-item.result c.loop-alt-test.true c.alt-item.is in
     found_twice g c.args.text.now c.args.alts.now c.loop-alt.alt-index
-        (subst (Found g c.args.text.now c.args.alts.now c.loop-alt.alt-index) c.if-found.true (c.loop-alt.invariant g))
-        (c.alt-item.result.terms, (c.alt-item.result, at, refl), subst (DeriveText g c.args.text.now) c.as_slice.ensures (c.derives_text.ensures.yes c.if-derives_text.true g)) n only
+    (subst (Found g c.args.text.now c.args.alts.now c.loop-alt.alt-index) c.if-found.true (c.loop-alt.invariant g))
+    (c.alt-item.result.terms, (c.alt-item.result, at, refl), subst (DeriveText g c.args.text.now) c.as_slice.ensures (c.derives_text.ensures.yes c.if-derives_text.true g)) n only
 
 pub loop-alt-preserved : goal.loop-alt-preserved
 loop-alt-preserved c = λ g.
@@ -18,12 +18,12 @@ loop-alt-preserved c = λ g.
     elim c.if-derives_text.branch [
       | then-derives_text+else-found w ↦ subst (Found g c.args.text.now c.args.alts.now _) (sym w.found-is)
           (found_first g c.args.text.now c.args.alts.now c.loop-alt.alt-index
-              (subst (Found g c.args.text.now c.args.alts.now c.loop-alt.alt-index) w.if-found.false (c.loop-alt.invariant g))
-              (c.alt-item.result.terms, (c.alt-item.result, at, refl), subst (DeriveText g c.args.text.now) c.as_slice.ensures (c.derives_text.ensures.yes w.if-derives_text.true g)))
+          (subst (Found g c.args.text.now c.args.alts.now c.loop-alt.alt-index) w.if-found.false (c.loop-alt.invariant g))
+          (c.alt-item.result.terms, (c.alt-item.result, at, refl), subst (DeriveText g c.args.text.now) c.as_slice.ensures (c.derives_text.ensures.yes w.if-derives_text.true g)))
       | else-derives_text w ↦ subst (Found g c.args.text.now c.args.alts.now _) (sym w.found-is)
           (found_same g c.args.text.now c.args.alts.now c.loop-alt.alt-index c.loop-alt.found (c.loop-alt.invariant g)
-              (λ h. c.derives_text.ensures.no w.if-derives_text.false g
-                  (subst (DeriveText g c.args.text.now) (sym c.as_slice.ensures) (derives_at g c.args.text.now c.args.alts.now c.loop-alt.alt-index c.alt-item.result at h))))
+          (λ h. c.derives_text.ensures.no w.if-derives_text.false g
+          (subst (DeriveText g c.args.text.now) (sym c.as_slice.ensures) (derives_at g c.args.text.now c.args.alts.now c.loop-alt.alt-index c.alt-item.result at h))))
     ]
 
 pub returns-clause-once : goal.returns-clause-once
