@@ -1,10 +1,11 @@
 -- All derivations of the small texts of the worked examples.
-use Rattle.std.proofs.Common.{◌≡◌, ◌≢◌, refl, ap, sym, subst, ◌⊎◌, ◌+◌, ◌≤◌, ℕ, zero, suc, List, [], ◌∷◌, length, codes, arith}
+use Rattle.std.proofs.Common.{◌≡◌, ◌≢◌, refl, ap, sym, subst, ◌∙◌, ◌⊎◌, ◌+◌, ◌≤◌, ℕ, zero, suc, List, [], ◌∷◌, length, codes, arith}
 use mathlib.Core.Logic.{inl, inr}
+use Rattle.ix_model.specs.declared.grammar.Grammar.{Grammar}
 use Rattle.ix_model.specs.declared.grammar.Rule.{Rule}
 use Rattle.ix_model.specs.declared.grammar.Alt.{Alt}
 use Rattle.ix_model.specs.declared.grammar.Term.{Term, One}
-use Rattle.ix_model.specs.Written.{IsOfRule}
+use Rattle.ix_model.specs.Written.{IsAlternative, IsOfRule}
 use Rattle.ix_model.specs.Terminals.{StandsAt}
 use Rattle.ix_model.specs.Trees.{Tree, text, node, group, Trees, no_tree, and}
 use Rattle.ix_model.specs.Heights.{height}
@@ -13,6 +14,8 @@ use Rattle.ix_model.specs.Order.{Before, First}
 use Rattle.ix_model.specs.ExampleGrammars.{alternative, rule, quoted, call, of_term, a_or_b, only_a, two_ways, cycle, sums, empty}
 use Rattle.ix_model.specs.ExampleTrees.{node_of, a_tree, one_at, sum_at, left_sum, right_sum}
 use Rattle.ix_model.proofs.Widths.{derived_width}
+use Rattle.ix_model.specs.Laws.{HasUniqueNames}
+use Rattle.ix_model.proofs.Roots.{from_first_rule}
 use Rattle.ix_model.proofs.Inversions.{one_alternative, one_of_two, of_only_rule, only_rule, quoted_is_text, call_is_node, group_is_alternative, none_derived, one_derived, three_derived}
 
 abbrev a_alone : List Term
@@ -52,17 +55,29 @@ one_a s d h =
     let y = quoted_is_text only_a s x.0 (codes "a") 0 (length s) x.2 in
     (cc (x.1, y.0), y.1)
 
+abbrev choice : Grammar
+choice = of_term (One a_or_b)
+
+abbrev by_a : Trees
+by_a = and no_tree (text 0 1)
+
 -- the first alternative of `("a"; "b")` does not derive `b`
-pub not_by_a : IsDerivation (of_term (One a_or_b)) (codes "b") (node_of 0 0 (group 0 (and no_tree (text 0 1)))) → ⊥
+pub not_by_a : IsDerivation choice (codes "b") (node_of 0 0 (group 0 by_a)) → ⊥
 not_by_a d =
-    let x = of_one_term (One a_or_b) (codes "b") (node_of 0 0 (group 0 (and no_tree (text 0 1)))) d in
-    let e : x.0 ≡ group 0 (and no_tree (text 0 1)) = cc x.1 in
-    let h : Derives (of_term (One a_or_b)) (codes "b") (group 0 (and no_tree (text 0 1))) (One a_or_b) 0 1 = subst (λ t. Derives (of_term (One a_or_b)) (codes "b") t (One a_or_b) 0 1) e x.2 in
-    let y = group_is_alternative (of_term (One a_or_b)) (codes "b") 0 (and no_tree (text 0 1)) a_or_b_alts 0 1 h in
-    let p : y.0 ≡ a_alone = cc (y.1.1, y.1.2) in
-    let z = one_derived (of_term (One a_or_b)) (codes "b") (and no_tree (text 0 1)) (quoted (codes "a")) 0 1 (subst (λ ts. DerivesAll (of_term (One a_or_b)) (codes "b") (and no_tree (text 0 1)) ts 0 1) p y.2) in
-    let u = quoted_is_text (of_term (One a_or_b)) (codes "b") z.0 (codes "a") 0 1 z.2 in
-    omega (arith, ap first u.1.2)
+    let x = of_one_term (One a_or_b) (codes "b") (node_of 0 0 (group 0 by_a)) d in
+    let e : x.0 ≡ group 0 by_a = cc x.1 in
+    stands_not (subst (λ t. Derives choice (codes "b") t (One a_or_b) 0 1) e x.2)
+  where
+    terms_are_a : (terms : List Term) → IsAlternative a_or_b_alts 0 terms → terms ≡ a_alone
+    terms_are_a terms h = cc (h.1, h.2)
+
+    stands_not : Derives choice (codes "b") (group 0 by_a) (One a_or_b) 0 1 → ⊥
+    stands_not h =
+        let y = group_is_alternative choice (codes "b") 0 by_a a_or_b_alts 0 1 h in
+        let all : DerivesAll choice (codes "b") by_a a_alone 0 1 = subst (λ ts. DerivesAll choice (codes "b") by_a ts 0 1) (terms_are_a y.0 y.1) y.2 in
+        let z = one_derived choice (codes "b") by_a (quoted (codes "a")) 0 1 all in
+        let u = quoted_is_text choice (codes "b") z.0 (codes "a") 0 1 z.2 in
+        omega (arith, ap first u.1.2)
 
 -- `S: .` derives the empty text
 pub only_empty : (s : List ℕ) (d : Tree) → IsDerivation empty s d → length s ≡ 0
@@ -205,11 +220,36 @@ left_or_right d (a, terms, ds, p, o, all) = by_form (of_alternative (codes "1+1+
     by_form (inl x) = absurd (omega (arith, x.1))
     by_form (inr (k, e, f, q, he, plus, hf)) = by_place k e f q he hf (plus_places k plus)
 
+-- a digit and a sum of sums derive from E
+digit_derives : (s : List ℕ) (i : ℕ) → StandsAt s (codes "1") i (i + 1) → IsE s (one_at i) i (i + 1)
+digit_derives s i h = ((_, _, refl, (_, refl, refl)), _, (_, refl, (_, refl, refl)), refl, (i, _, refl, refl, (refl, refl, inl (_, _, refl, h))))
+
+sum_derives : (s : List ℕ) (i k j : ℕ) (d e : Tree) → IsE s d i k → StandsAt s (codes "+") k (k + 1) → IsE s e (k + 1) j → IsE s (sum_at k d e) i j
+sum_derives s i k j d e hd h he = (
+  (_, _, refl, (_, refl, refl)),
+  _,
+  (_, refl, (_, refl, refl)),
+  refl,
+  (k + 1, _, (k, _, (i, _, refl, refl, hd), refl, (refl, refl, inl (_, _, refl, h))), refl, he),
+)
+
+sums_of_one_name : HasUniqueNames sums
+sums_of_one_name r q name h k = only_rule e_rule r name h ∙ sym (only_rule e_rule q name k)
+
+abbrev digit_at : (i : ℕ) → StandsAt (codes "1+1+1") (codes "1") i (i + 1) → IsE (codes "1+1+1") (one_at i) i (i + 1)
+digit_at i h = digit_derives (codes "1+1+1") i h
+
 pub left_derives : IsDerivation sums (codes "1+1+1") left_sum
-left_derives = (0, _, _, refl, (_, refl, (_, refl, refl)), (refl, (4, _, (3, _, (0, _, refl, refl, ((_, _, refl, (_, refl, refl)), _, (_, refl, (_, refl, refl)), refl, (2, _, (1, _, (0, _, refl, refl, ((_, _, refl, (_, refl, refl)), _, (_, refl, (_, refl, refl)), refl, (0, _, refl, refl, (refl, refl, inl (_, _, refl, (refl, omega arith, refl)))))), refl, (refl, refl, inl (_, _, refl, (refl, omega arith, refl)))), refl, ((_, _, refl, (_, refl, refl)), _, (_, refl, (_, refl, refl)), refl, (2, _, refl, refl, (refl, refl, inl (_, _, refl, (refl, omega arith, refl)))))))), refl, (refl, refl, inl (_, _, refl, (refl, omega arith, refl)))), refl, ((_, _, refl, (_, refl, refl)), _, (_, refl, (_, refl, refl)), refl, (4, _, refl, refl, (refl, refl, inl (_, _, refl, (refl, omega arith, refl))))))))
+left_derives =
+    let front = sum_derives (codes "1+1+1") 0 1 3 (one_at 0) (one_at 2) (digit_at 0 (refl, omega arith, refl)) (refl, omega arith, refl) (digit_at 2 (refl, omega arith, refl)) in
+    let whole = sum_derives (codes "1+1+1") 0 3 5 (sum_at 1 (one_at 0) (one_at 2)) (one_at 4) front (refl, omega arith, refl) (digit_at 4 (refl, omega arith, refl)) in
+    from_first_rule sums (codes "1+1+1") (codes "E") left_sum sums_of_one_name (_, refl, refl) whole
 
 pub right_derives : IsDerivation sums (codes "1+1+1") right_sum
-right_derives = (0, _, _, refl, (_, refl, (_, refl, refl)), (refl, (2, _, (1, _, (0, _, refl, refl, ((_, _, refl, (_, refl, refl)), _, (_, refl, (_, refl, refl)), refl, (0, _, refl, refl, (refl, refl, inl (_, _, refl, (refl, omega arith, refl)))))), refl, (refl, refl, inl (_, _, refl, (refl, omega arith, refl)))), refl, ((_, _, refl, (_, refl, refl)), _, (_, refl, (_, refl, refl)), refl, (4, _, (3, _, (2, _, refl, refl, ((_, _, refl, (_, refl, refl)), _, (_, refl, (_, refl, refl)), refl, (2, _, refl, refl, (refl, refl, inl (_, _, refl, (refl, omega arith, refl)))))), refl, (refl, refl, inl (_, _, refl, (refl, omega arith, refl)))), refl, ((_, _, refl, (_, refl, refl)), _, (_, refl, (_, refl, refl)), refl, (4, _, refl, refl, (refl, refl, inl (_, _, refl, (refl, omega arith, refl))))))))))
+right_derives =
+    let back = sum_derives (codes "1+1+1") 2 3 5 (one_at 2) (one_at 4) (digit_at 2 (refl, omega arith, refl)) (refl, omega arith, refl) (digit_at 4 (refl, omega arith, refl)) in
+    let whole = sum_derives (codes "1+1+1") 0 1 5 (one_at 0) (sum_at 3 (one_at 2) (one_at 4)) (digit_at 0 (refl, omega arith, refl)) (refl, omega arith, refl) back in
+    from_first_rule sums (codes "1+1+1") (codes "E") right_sum sums_of_one_name (_, refl, refl) whole
 
 -- ---- first derivations
 
