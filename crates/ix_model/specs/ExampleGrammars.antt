@@ -83,9 +83,9 @@ a_or_b = Group (alternative (quoted (codes "a") ∷ []) ∷ alternative (quoted 
 abbrev pub commas : Term
 commas = Plus (literal (codes "a")) (Some (literal (codes ",")))
 
--- S: ("a"; "b")?, "c"++-",".
+-- S: (-"a"; "b")?, "c"++-",".
 abbrev pub parts : Grammar
-parts = grammar (rule (codes "S") (alternative (Opt a_or_b ∷ Plus (literal (codes "c")) (Some (deleted (codes ","))) ∷ []) ∷ []) ∷ [])
+parts = grammar (rule (codes "S") (alternative (Opt (Group (alternative (One (deleted (codes "a")) ∷ []) ∷ alternative (quoted (codes "b") ∷ []) ∷ [])) ∷ Plus (literal (codes "c")) (Some (deleted (codes ","))) ∷ []) ∷ []) ∷ [])
 
 -- S: "t", -h. h: -g. g: @a. a: "v".
 abbrev pub hidden : Grammar
@@ -102,11 +102,11 @@ nested = grammar (
     ∷ rule (codes "a") (alternative (quoted (codes "x") ∷ marked_call Attribute (codes "b") ∷ One (deleted (codes "y")) ∷ inserted (codes "z") ∷ []) ∷ [])
     ∷ rule (codes "b") (alternative (quoted (codes "w") ∷ []) ∷ []) ∷ [])
 
--- S: -a, ^b, c. a: "1". -b: "2". -c: "3".
+-- S: -a, ^b, c. a: -"0"; "1". -b: "2". -c: "3".
 abbrev pub marks : Grammar
 marks = grammar (
     rule (codes "S") (alternative (marked_call Hidden (codes "a") ∷ marked_call Element (codes "b") ∷ call (codes "c") ∷ []) ∷ [])
-    ∷ rule (codes "a") (alternative (quoted (codes "1") ∷ []) ∷ [])
+    ∷ rule (codes "a") (alternative (One (deleted (codes "0")) ∷ []) ∷ alternative (quoted (codes "1") ∷ []) ∷ [])
     ∷ marked_rule (Some Hidden) (codes "b") (alternative (quoted (codes "2") ∷ []) ∷ [])
     ∷ marked_rule (Some Hidden) (codes "c") (alternative (quoted (codes "3") ∷ []) ∷ []) ∷ [])
 

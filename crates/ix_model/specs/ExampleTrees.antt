@@ -40,7 +40,7 @@ nested_tree = node_of 0 0 (node 1 0 (and (and (and (and no_tree (text 0 1)) (nod
 
 -- `123` under `marks`
 abbrev pub marks_tree : Tree
-marks_tree = node 0 0 (and (and (and no_tree (node_of 1 0 (text 0 1))) (node_of 2 0 (text 1 2))) (node_of 3 0 (text 2 3)))
+marks_tree = node 0 0 (and (and (and no_tree (node_of 1 1 (text 0 1))) (node_of 2 0 (text 1 2))) (node_of 3 0 (text 2 3)))
 
 -- `a` under `marked_root`
 abbrev pub marked_root_tree : Tree
