@@ -44,7 +44,7 @@ marks_tree = node 0 0 (and (and (and no_tree (node_of 1 1 (text 0 1))) (node_of 
 
 -- `a` under `marked_root`
 abbrev pub marked_root_tree : Tree
-marked_root_tree = node_of 0 0 (node_of 1 0 (text 0 1))
+marked_root_tree = node_of 0 1 (node_of 1 0 (text 0 1))
 
 -- `a` under `escaped`
 abbrev pub escaped_tree : Tree

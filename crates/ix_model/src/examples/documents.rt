@@ -47,10 +47,12 @@ pub fn one_run_escaped()
     ensures bytes { xml (gives_root (codes "a") escaped escaped_tree) Single ≡ codes "<S>&lt;a&amp;</S>" ++ 10 ∷ [] }
 {}
 
-/// An element without content is closed at once; an ambiguous root says so before its attributes.
+/// An element without content is closed at once, and has its attributes in order; an ambiguous root says so before them.
 pub fn roots()
     ensures empty { xml (gives_root [] empty (node 0 0 no_tree)) Single ≡ codes "<S/>" ++ 10 ∷ [] }
     ensures ambiguous { xml (followed (element (codes "S") (followed (attribute (codes "a") []) nothing)) nothing) Ambiguous ≡ codes "<S xmlns:ixml=\"http://invisiblexml.org/NS\" ixml:state=\"ambiguous\" a=\"\"/>" ++ 10 ∷ [] }
+    ensures name { xml (followed (element (233 ∷ []) nothing) nothing) Single ≡ codes "<" ++ 195 ∷ 169 ∷ (codes "/>" ++ 10 ∷ []) }
+    ensures attributes { xml (followed (element (codes "S") (followed (attribute (codes "a") (codes "1")) (followed (run (codes "t")) (followed (attribute (codes "b") (codes "2")) nothing)))) nothing) Single ≡ codes "<S a=\"1\" b=\"2\">t</S>" ++ 10 ∷ [] }
     ensures none { (state : _) → xml nothing state ≡ [] }
     ensures two { (state : _) → xml (followed (element (codes "S") nothing) (followed (element (codes "S") nothing) nothing)) state ≡ [] }
 {}

@@ -18,4 +18,4 @@ pub returns-clause-escaped : goal.returns-clause-escaped
 returns-clause-escaped c = (0, _, _, refl, (_, refl, (_, refl, refl)), (refl, (1, _, (0, _, (0, _, refl, refl, (refl, (_, refl))), refl, (refl, refl, inl (_, _, refl, (refl, omega arith, refl)))), refl, (refl, (_, refl)))))
 
 pub returns-clause-marked_root : goal.returns-clause-marked_root
-returns-clause-marked_root c = λ mark. (0, _, _, refl, (_, refl, (_, refl, refl)), (refl, (0, _, refl, refl, ((_, _, refl, (_, refl, refl)), _, (_, refl, (_, refl, refl)), refl, (0, _, refl, refl, (refl, refl, inl (_, _, refl, (refl, omega arith, refl))))))))
+returns-clause-marked_root c = λ mark. (1, _, _, refl, (_, refl, (_, refl, refl)), (refl, (0, _, refl, refl, ((_, _, refl, (_, refl, refl)), _, (_, refl, (_, refl, refl)), refl, (0, _, refl, refl, (refl, refl, inl (_, _, refl, (refl, omega arith, refl))))))))
