@@ -110,9 +110,9 @@ marks = grammar (
     ∷ marked_rule (Some Hidden) (codes "b") (alternative (quoted (codes "2") ∷ []) ∷ [])
     ∷ marked_rule (Some Hidden) (codes "c") (alternative (quoted (codes "3") ∷ []) ∷ []) ∷ [])
 
--- S: -"c"; b. b: "a".   with a mark on the first rule
+-- S: -"c"; ^b. -b: "a".   with a mark on the first rule
 abbrev pub marked_root : Mark → Grammar
-marked_root mark = grammar (marked_rule (Some mark) (codes "S") (alternative (One (deleted (codes "c")) ∷ []) ∷ alternative (call (codes "b") ∷ []) ∷ []) ∷ rule (codes "b") (alternative (quoted (codes "a") ∷ []) ∷ []) ∷ [])
+marked_root mark = grammar (marked_rule (Some mark) (codes "S") (alternative (One (deleted (codes "c")) ∷ []) ∷ alternative (marked_call Element (codes "b") ∷ []) ∷ []) ∷ marked_rule (Some Hidden) (codes "b") (alternative (quoted (codes "a") ∷ []) ∷ []) ∷ [])
 
 -- S: "a". S: "b".
 abbrev pub same_names : Grammar
