@@ -1,5 +1,5 @@
 -- What a load says of the files that tell what they hold.
-use Rattle.std.proofs.Common.{◌≡◌, refl, sym, ap, ◌∙◌, subst, ℕ, List, length, take, Option, None, Some, Result, Ok, Err, Vec, Global, IfSome, true, false, ◌≤◌, arith}
+use Rattle.std.proofs.Common.{◌≡◌, refl, sym, ◌∙◌, subst, ℕ, List, length, take, Option, None, Some, Ok, Vec, Global, IfSome, ◌≤◌, arith}
 use Rattle.std.proofs.lemmas.List.{length-take, take_all}
 use Rattle.ix_edge.specs.declared.fault.LoadFault.{LoadFault}
 use Rattle.ix_edge.specs.Told.{Told, held, Loads}

@@ -1,16 +1,13 @@
 -- The table has at most one answer for the words and the files.
-use Rattle.std.proofs.Common.{◌≡◌, refl, sym, ap, ap₂, ◌∙◌, subst, ℕ, List, [], ◌∷◌, Some, codes}
-use Rattle.std.specs.Prelude.{◌⊎◌}
+use Rattle.std.proofs.Common.{◌≡◌, refl, sym, ap, ◌∙◌, subst, ℕ, List, [], ◌∷◌, codes}
 use mathlib.Core.Logic.{inl, inr}
 use Rattle.ix_model.specs.declared.grammar.Grammar.{Grammar}
 use Rattle.ix_model.specs.declared.state.State.TheVariants.{Single}
 use Rattle.ix_model.specs.Gives.{gives_root}
 use Rattle.ix_model.specs.Xml.{xml}
-use Rattle.ix_edge.specs.Told.{Told, held}
+use Rattle.ix_edge.specs.Told.{Told}
 use Rattle.ix_reader.specs.PlainFile.{SpellsPlain}
 use Rattle.ix_reader.proofs.Spelled.{spelled_once}
-use Rattle.ix_cli.specs.Form.{HasForm}
-use Rattle.ix_cli.specs.Once.{IsOnly}
 use Rattle.ix_cli.specs.Reply.{Reply, document, no_form, not_built, IsTextReply, IsFilesReply, IsReply}
 use Rattle.ix_cli.proofs.Lists.{some_is}
 

@@ -1,5 +1,5 @@
 -- The grammar that a plain file spells has one rule of plain alternatives.
-use Rattle.std.proofs.Common.{◌≡◌, refl, ap, subst, sym, ℕ, List, [], ◌∷◌, ◌≤◌, length, map, None}
+use Rattle.std.proofs.Common.{refl, ap, ℕ, List, [], ◌∷◌, ◌≤◌, length, map, None}
 use Rattle.ix_model.specs.declared.grammar.Grammar.{Grammar}
 use Rattle.ix_model.specs.declared.grammar.Rule.{Rule}
 use Rattle.ix_model.specs.Plain.{ArePlain}

@@ -1,5 +1,5 @@
 -- Derivations of a grammar with one plain rule: one for each alternative that derives the text, and what they give.
-use Rattle.std.proofs.Common.{◌≡◌, refl, ap, ap₂, sym, subst, ◌∙◌, ◌+◌, ◌-◌, ◌<◌, ◌≤◌, ℕ, zero, suc, Bool, true, false, List, [], ◌∷◌, ◌++◌, length, take, drop, None, Some, unwrap_or, option_map, option_and_then, slice_get, get_or, append-nil, arith}
+use Rattle.std.proofs.Common.{◌≡◌, refl, ap, ap₂, sym, subst, ◌∙◌, ◌-◌, ◌≤◌, ℕ, zero, suc, true, List, [], ◌∷◌, ◌++◌, length, take, drop, None, Some, unwrap_or, option_map, option_and_then, slice_get, get_or, append-nil, arith}
 use Rattle.std.proofs.Math.Seq.{take-add, take-length}
 use mathlib.Core.Logic.{inl, inr}
 use denote.Hole.Carrier.{out}
@@ -15,8 +15,8 @@ use Rattle.ix_model.specs.Plain.{IsPlain, ArePlain}
 use Rattle.ix_model.specs.Trees.{Tree, text, node, Trees, no_tree, and, tree_count}
 use Rattle.ix_model.specs.Terminals.{Matches}
 use Rattle.ix_model.specs.Derives.{Derives, DerivesFirst, IsDerivation}
-use Rattle.ix_model.specs.Bare.{Bares, bare_text, none, more, join, no_term, factor_of, is_shown_in, bare, bare_all, terms_at, rule_alts, rule_name, rule_mark, effective}
-use Rattle.ix_model.specs.Gives.{Givens, nothing, followed, element, put_run, join_given, of_mark, values, gives_all, gives_root}
+use Rattle.ix_model.specs.Bare.{bare_text, none, more, join, no_term, factor_of, is_shown_in, bare, bare_all, terms_at, rule_alts, rule_name, rule_mark, effective}
+use Rattle.ix_model.specs.Gives.{nothing, followed, element, put_run, join_given, of_mark, values, gives_all, gives_root}
 use Rattle.ix_model.specs.declared.state.State.TheVariants.{Single}
 use Rattle.ix_model.specs.Xml.{xml}
 use Rattle.ix_model.proofs.Forms.{derived_form, one_form, factor_form, out_lit}

@@ -1,12 +1,12 @@
 -- From what was loaded and found to the table of answers.
-use Rattle.std.proofs.Common.{◌≡◌, refl, sym, ap, ◌∙◌, subst, ℕ, ◌≤◌, ◌+◌, ◌-◌, ◌^◌, min, List, Option, None, Some, Result, Ok, Err, IfOk, IfErr, IfSome, string_bytes, String, Global, arith}
+use Rattle.std.proofs.Common.{◌≡◌, refl, sym, ap, ◌∙◌, subst, ℕ, ◌≤◌, List, Option, None, Some, Result, Ok, Err, IfOk, IfErr, IfSome, String, Global, arith}
 use Rattle.std.specs.Prelude.{◌⊎◌}
 use Rattle.std.specs.Result.{IsErrAnd}
 use mathlib.Core.Logic.{inl, inr}
 use Rattle.ix_model.specs.declared.grammar.Grammar.{Grammar}
 use Rattle.ix_model.specs.Trees.{Tree}
 use Rattle.ix_edge.specs.Causes.{Rose}
-use Rattle.ix_edge.specs.Told.{Told, held}
+use Rattle.ix_edge.specs.Told.{Told}
 use Rattle.ix_reader.specs.PlainFile.{SpellsPlain}
 use Rattle.ix_cli.specs.declared.answer.Answer.{Answer}
 use Rattle.ix_cli.specs.declared.answer.Answer.TheVariants as answer

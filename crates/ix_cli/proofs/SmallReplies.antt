@@ -1,8 +1,7 @@
 -- The worked examples of the table of answers.
-use Rattle.std.proofs.Common.{◌≡◌, ◌≢◌, refl, sym, ap, ◌∙◌, subst, ℕ, List, [], ◌∷◌, codes, arith, rules}
+use Rattle.std.proofs.Common.{◌≡◌, ◌≢◌, refl, sym, ap, ◌∙◌, ℕ, List, [], ◌∷◌, zero, suc, Some, take, codes, arith, rules}
 use mathlib.Core.Logic.{inl, inr}
 use lib.Utf8.{encode}
-use Rattle.ix_model.specs.declared.grammar.Grammar.{Grammar}
 use Rattle.ix_model.specs.ExampleGrammars as grammars
 use Rattle.ix_model.specs.ExampleTrees.{node_of, a_tree}
 use Rattle.ix_model.specs.Trees.{text}
@@ -10,10 +9,11 @@ use Rattle.ix_model.specs.declared.state.State.TheVariants.{Single}
 use Rattle.ix_model.specs.Gives.{gives_root}
 use Rattle.ix_model.specs.Xml.{xml}
 use Rattle.ix_model.proofs.SmallTexts.{a_derives, one_a, earlier_derives, later_derives, first}
-use Rattle.ix_reader.specs.PlainFile.{SpellsPlain, PlainFile, IsFile}
-use Rattle.ix_cli.specs.Examples.{parse_g_t, holding, one_way, two_ways, raised, no_count}
-use Rattle.ix_cli.specs.Form.{HasForm, HasSomeForm}
-use Rattle.ix_cli.specs.Reply.{document, no_form, not_built, IsReply}
+use Rattle.ix_reader.specs.PlainFile.{SpellsPlain, PlainFile}
+use Rattle.ix_cli.specs.Answered.{IsAnswered, IsCutOff}
+use Rattle.ix_cli.specs.Examples.{parse_g_t, holding, one_way, two_ways}
+use Rattle.ix_cli.specs.Form.{HasForm}
+use Rattle.ix_cli.specs.Reply.{Reply, document, not_built, status_of, output_of, IsReply}
 use Rattle.ix_cli.specs.Once.{HasPlainRule}
 use Rattle.ix_cli.proofs.PlainTrees.{gives_root-plain}
 use Rattle.ix_cli.proofs.OneReply.{one_reply}
@@ -111,3 +111,43 @@ not_refused h = absurd (cc (one_reply parse_g_t (holding one_way (codes "a")) _ 
 
 pub not_cut_off : ¬ (IsReply parse_g_t (holding one_way (codes "a")) (document (codes "<S>a</S>")))
 not_cut_off h = absurd (cc (one_reply parse_g_t (holding one_way (codes "a")) _ _ answered h))
+
+-- ---- what was written
+
+abbrev Replied : List ℕ → ℕ → Type 0
+Replied bytes status = IsAnswered parse_g_t (Some (holding one_way (codes "a"))) (Some []) (Some bytes) status
+
+-- the table's answer is the document alone
+the_document : (reply : Reply) → IsReply parse_g_t (holding one_way (codes "a")) reply → document (codes "<S>a</S>\n") ≡ reply
+the_document reply h = one_reply parse_g_t (holding one_way (codes "a")) _ reply answered h
+
+pub written_whole : Replied (codes "<S>a</S>\n") 0
+written_whole = (document (codes "<S>a</S>\n"), answered, refl, refl)
+
+pub not_shorter : ¬ (Replied (codes "<S>a</S>") 0)
+not_shorter h = absurd (cc (h.3 ∙ sym (ap output_of (the_document h.0 h.1))))
+
+pub not_nothing : ¬ (Replied [] 10)
+not_nothing h = omega (arith, h.2 ∙ sym (ap status_of (the_document h.0 h.1)))
+
+abbrev CutOff : List ℕ → Type 0
+CutOff bytes = IsCutOff parse_g_t (Some (holding one_way (codes "a"))) (Some []) (Some bytes)
+
+pub written_front : CutOff (codes "<S>a")
+written_front = (codes "<S>a</S>\n", answered, omega arith, 4, refl)
+
+-- the front of a document begins as the document does
+first_or : ℕ → List ℕ → ℕ
+first_or n [] = n
+first_or n (x ∷ xs) = x
+
+begins_same : (n x : ℕ) (xs : List ℕ) → first_or x (take n (x ∷ xs)) ≡ x
+unfolding first_or
+begins_same zero x xs = refl
+begins_same (suc n) x xs = refl
+
+pub not_another_front : ¬ (CutOff (codes "S"))
+unfolding first_or
+not_another_front h =
+    let e : codes "<S>a</S>\n" ≡ h.0 = cc (the_document (document h.0) h.1) in
+    omega (arith, ap (first_or 60) (h.4 ∙ ap (take h.3) (sym e)) ∙ begins_same h.3 60 (codes "S>a</S>\n"))

@@ -1,5 +1,5 @@
 -- What status 7 says of the answer.
-use Rattle.std.proofs.Common.{◌≡◌, refl, ◌∙◌, sym, subst, ℕ, List, String, Global, string_bytes, arith}
+use Rattle.std.proofs.Common.{◌≡◌, refl, ℕ, List, String, Global, string_bytes, arith}
 use Rattle.ix_cli.specs.declared.answer.Answer.{Answer}
 use Rattle.ix_cli.specs.declared.answer.Answer.TheVariants as answer
 use Rattle.ix_cli.specs.Lines.{line_of, status_of, read_line}

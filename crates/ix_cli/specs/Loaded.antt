@@ -6,7 +6,6 @@ use Rattle.ix_edge.specs.Told.{Told, held}
 use Rattle.ix_reader.specs.PlainFile.{SpellsPlain}
 use Rattle.ix_cli.specs.declared.answer.Answer.{Answer}
 use Rattle.ix_cli.specs.declared.answer.Answer.TheVariants as answer
-use Rattle.ix_cli.specs.PlainText.{IsPlainText}
 
 -- where the files tell it, the name holds bytes of which this is true
 abbrev pub Holds : Option Told → List ℕ → (List ℕ → Type 0) → Type 0

@@ -1,5 +1,5 @@
 -- Why there is no document: the cause of each answer.
-use Rattle.std.specs.Prelude.{◌≡◌, ℕ, List, Option, IfSome, string_bytes}
+use Rattle.std.specs.Prelude.{ℕ, List, Option, IfSome, string_bytes}
 use Rattle.ix_edge.specs.Told.{Told}
 use Rattle.ix_cli.specs.declared.answer.Answer.{Answer}
 use Rattle.ix_cli.specs.declared.answer.Answer.TheVariants as answer

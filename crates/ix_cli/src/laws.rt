@@ -1,11 +1,14 @@
 //! Laws of the definitions that the command's contract speaks of. Each function's contract is the law; the bodies are
 //! empty.
 ghost use Rattle.std.specs.Prelude.{[], ◌∷◌, Some, codes};
+ghost use Rattle.ix_cli.specs.Answered.{IsAnswered, IsCutOff};
 ghost use Rattle.ix_cli.specs.Examples.{parse_g_t, holding, one_way, two_ways, raised, no_count};
 ghost use Rattle.ix_cli.specs.Form.{HasForm, HasSomeForm};
 ghost use Rattle.ix_cli.specs.Laws.{ReplyIsOne};
+ghost use Rattle.ix_cli.specs.Lines.{memory_line};
 ghost use Rattle.ix_cli.specs.PlainText.{IsPlainText};
 ghost use Rattle.ix_cli.specs.Reply.{document, no_form, not_built, IsReply};
+ghost use Rattle.ix_cli.specs.Says.{Says};
 ghost use Rattle.ix_cli.specs.Unread.{IsUnread};
 
 /// The table has at most one answer for the words and the files.
@@ -49,4 +52,20 @@ pub fn files_that_are_unread()
     ensures not_raised { ¬ (IsUnread parse_g_t (Some (holding [] [])) no_count no_count (codes "g")) }
     ensures text_before_grammar { ¬ (IsUnread parse_g_t (Some (holding [] [])) no_count (raised (codes "t")) (codes "t")) }
     ensures not_named { ¬ (IsUnread parse_g_t (Some (holding [] [])) no_count (raised (codes "x")) (codes "x")) }
+{}
+
+/// Status and output are those of the table, and what a fault of the output leaves is the front of its document.
+pub fn outputs_of_the_table()
+    ensures answered { IsAnswered parse_g_t (Some (holding one_way (codes "a"))) (Some []) (Some (codes "<S>a</S>\n")) 0 }
+    ensures not_shorter { ¬ (IsAnswered parse_g_t (Some (holding one_way (codes "a"))) (Some []) (Some (codes "<S>a</S>")) 0) }
+    ensures not_refused { ¬ (IsAnswered parse_g_t (Some (holding one_way (codes "a"))) (Some []) (Some []) 10) }
+    ensures front { IsCutOff parse_g_t (Some (holding one_way (codes "a"))) (Some []) (Some (codes "<S>a")) }
+    ensures not_front { ¬ (IsCutOff parse_g_t (Some (holding one_way (codes "a"))) (Some []) (Some (codes "S"))) }
+{}
+
+/// A line is said where it was appended; where the count of faults rose, nothing is claimed.
+pub fn lines_that_are_said()
+    ensures said { Says (Some []) (Some memory_line) 0 0 memory_line }
+    ensures not_silent { ¬ (Says (Some []) (Some []) 0 0 memory_line) }
+    ensures failed { Says (Some []) (Some []) 0 1 memory_line }
 {}

@@ -1,6 +1,7 @@
 pub mod Causes
 pub mod Counts
 pub mod Entries
+pub mod Examples
 pub mod MemFiles
 pub mod MemSink
 pub mod Puts

@@ -7,6 +7,7 @@ mod entry;
 mod fault;
 mod files;
 mod gate;
+pub mod laws;
 mod mem_files;
 mod mem_sink;
 mod sink;

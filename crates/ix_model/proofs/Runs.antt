@@ -1,7 +1,7 @@
 -- Runs of characters among what trees give: they join.
 use Rattle.std.proofs.Common.{◌≡◌, refl, ap, sym, ◌∙◌, ℕ, ◌-◌, true, false, List, [], ◌∷◌, ◌++◌, take, drop, append_assoc, append-nil}
-use Rattle.ix_model.specs.Bare.{Bare, bare_text, bare_insertion, bare_node, Bares, none, more, join}
-use Rattle.ix_model.specs.Gives.{Given, attribute, element, run, Givens, nothing, followed, put_run, join_given, value, values, gives, gives_all}
+use Rattle.ix_model.specs.Bare.{bare_text, bare_insertion, bare_node, Bares, none, more, join}
+use Rattle.ix_model.specs.Gives.{attribute, element, run, Givens, nothing, followed, put_run, join_given, value, values, gives_all}
 
 -- two runs in front are one
 pub put_run-put_run : (cs ds : List ℕ) (gs : Givens) → put_run cs (put_run ds gs) ≡ put_run (cs ++ ds) gs

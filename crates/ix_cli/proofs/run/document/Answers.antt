@@ -1,5 +1,4 @@
-use Rattle.std.proofs.Common.{◌≡◌, ap, sym, ◌∙◌, subst, string_bytes, map, List, ℕ}
-use Rattle.ix_cli.specs.Form.{HasForm}
+use Rattle.std.proofs.Common.{◌≡◌, sym, subst, string_bytes, map}
 use Rattle.ix_cli.specs.Loaded.{Holds, IsFileFault}
 use Rattle.ix_cli.specs.PlainText.{IsPlainText}
 use Rattle.ix_cli.specs.Once.{IsOnly}

@@ -1,5 +1,4 @@
 use Rattle.std.proofs.Common.{◌≡◌, ◌-◌, ℕ, length, refl, sym, ◌∙◌, subst, arith}
-use Rattle.ix_model.specs.Trees.{tree_count}
 use Rattle.ix_model.specs.Derives.{DerivesFirst}
 use Rattle.ix_model.proofs.Lines.{comes_nowhere, comes_next, stops_here, plain_at, matches_within, get_some}
 use Rattle.std.proofs.lemmas.Bool.Decides.{nat_tests}

@@ -1,7 +1,7 @@
 use Rattle.std.proofs.Common.{refl, subst, sym}
 use Rattle.ix_model.proofs.Lines.{get_some}
 use Rattle.ix_cli.specs.Once.{DeriveText}
-use Rattle.ix_cli.proofs.Alternatives.{Found, found_nothing, found_first, found_same, found_twice, found_once, found_none, derives_at, plain_alt_at}
+use Rattle.ix_cli.proofs.Alternatives.{Found, found_first, found_same, found_twice, found_once, found_none, derives_at}
 use Rattle.ix_cli.proofs.search.is_derived_once.Goals as goal
 use Rattle.ix_cli.proofs.search.is_derived_once.Goals.{then-derives_text+else-found, else-derives_text}
 

@@ -1,0 +1,17 @@
+use Rattle.ix_cli.proofs.SmallReplies.{written_whole, not_shorter, not_nothing, written_front, not_another_front}
+use Rattle.ix_cli.proofs.laws.outputs_of_the_table.Goals as goal
+
+pub returns-clause-answered : goal.returns-clause-answered
+returns-clause-answered c = written_whole
+
+pub returns-clause-not_shorter : goal.returns-clause-not_shorter
+returns-clause-not_shorter c = not_shorter
+
+pub returns-clause-not_refused : goal.returns-clause-not_refused
+returns-clause-not_refused c = not_nothing
+
+pub returns-clause-front : goal.returns-clause-front
+returns-clause-front c = written_front
+
+pub returns-clause-not_front : goal.returns-clause-not_front
+returns-clause-not_front c = not_another_front
