@@ -1,8 +1,13 @@
 pub mod Asym
+pub mod Children
 pub mod Forming
 pub mod Forms
 pub mod Inversions
+pub mod Lifting
+pub mod LiftOfLower
 pub mod Lines
+pub mod Lowering
+pub mod LowerOfLift
 pub mod Once
 pub mod Roots
 pub mod Runs

@@ -1,12 +1,25 @@
-//! The written grammar, and the definitions that every theorem of this project is about.
+//! The written grammar and the numbered rules, and the definitions that every theorem of this project is about.
 #![tactic(auto)]
 
+mod char_set;
+mod counts;
 pub mod examples;
+pub mod expansion_laws;
 mod grammar;
 pub mod laws;
+mod plan;
+mod rules;
 mod state;
+mod step;
+mod sub;
 mod text;
 
+pub use char_set::{CharRange, CharSet};
+pub use counts::Counts;
 pub use grammar::{Alt, Bound, Chars, Factor, Grammar, Mark, Member, Rule, TMark, Term};
+pub use plan::{Plan, SlotInfo};
+pub use rules::{Flat, Kind, Line, Rules, Sym, Terminal};
 pub use state::State;
+pub use step::Step;
+pub use sub::Sub;
 pub use text::Text;

@@ -1,0 +1,34 @@
+-- Laws of the expansion: derivations over the written grammar and over its numbered rules correspond one to one.
+use Rattle.std.specs.Prelude.{◌≡◌, ◌<◌, length, None}
+use Rattle.std.specs.Char.{IsScalar}
+use Rattle.std.specs.List.{AllByRecursion}
+use Rattle.ix_model.specs.declared.grammar.Grammar.{Grammar}
+use Rattle.ix_model.specs.declared.rules.Sym.TheVariants as sym
+use Rattle.ix_model.specs.Trees.{Tree}
+use Rattle.ix_model.specs.Derives.{IsDerivation}
+use Rattle.ix_model.specs.Laws.{HasUniqueNames}
+use Rattle.ix_model.specs.Parts.{Parts}
+use Rattle.ix_model.specs.FlatTrees.{FlatTree}
+use Rattle.ix_model.specs.FlatDerives.{IsFlatDerivation}
+use Rattle.ix_model.specs.Expanded.{Expanded}
+use Rattle.ix_model.specs.Lift.{lift}
+use Rattle.ix_model.specs.Lower.{lower}
+
+-- the plan is of the rules of a grammar that has a first rule and unique names, and its text is made of characters
+pub record IsPlanOf (g : Grammar) (plan : Parts) : Type 0 where
+  pub text : AllByRecursion IsScalar plan.text
+  pub unique : HasUniqueNames g
+  pub first : 0 < length g.rules
+  pub expanded : Expanded g plan.rules
+
+-- the lift of a flat derivation is a derivation of the text, and lowered again it is itself
+abbrev pub LiftIsExact : Type 0
+LiftIsExact =
+    (g : Grammar) (plan : Parts) (e : FlatTree) → IsPlanOf g plan → IsFlatDerivation plan e →
+    IsDerivation g plan.text (lift plan.rules e) × (lower plan.rules (lift plan.rules e) (sym.Rule 0 None) ≡ e)
+
+-- a derivation of the text is lowered to a flat derivation, and lifted again it is itself
+abbrev pub LowerIsExact : Type 0
+LowerIsExact =
+    (g : Grammar) (plan : Parts) (d : Tree) → IsPlanOf g plan → IsDerivation g plan.text d →
+    IsFlatDerivation plan (lower plan.rules d (sym.Rule 0 None)) × (lift plan.rules (lower plan.rules d (sym.Rule 0 None)) ≡ d)

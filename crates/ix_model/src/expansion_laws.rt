@@ -1,0 +1,12 @@
+//! Laws of the numbered rules. Each function's contract is the law; the bodies are empty.
+ghost use Rattle.ix_model.specs.ExpansionLaws.{LiftIsExact, LowerIsExact};
+
+/// The lift of a derivation over the numbered rules is a derivation of the text, and lowered again it is itself.
+pub fn lift_is_exact()
+    ensures { LiftIsExact }
+{}
+
+/// A derivation of the text is lowered to a derivation over the numbered rules, and lifted again it is itself.
+pub fn lower_is_exact()
+    ensures { LowerIsExact }
+{}
