@@ -1,5 +1,5 @@
 -- The numbers of slots: rule by rule, alternative by alternative, the dot from the left. It is this project's own.
-use Rattle.std.specs.Prelude.{ℕ, zero, suc, ◌+◌, List, [], ◌∷◌, ◌++◌, length}
+use Rattle.std.specs.Prelude.{ℕ, Bool, ◌&&◌, ◌||◌, ◌==◌, nat_lt, zero, suc, ◌+◌, List, [], ◌∷◌, ◌++◌, length}
 use Rattle.ix_model.specs.declared.rules.Line.{Line}
 use Rattle.ix_model.specs.declared.rules.Flat.{Flat}
 use Rattle.ix_model.specs.declared.plan.SlotInfo.{SlotInfo}
@@ -26,3 +26,7 @@ rules_from r (f ∷ fs) = alts_from r 0 f.lines ++ rules_from (r + 1) fs
 -- all slots in the order of their numbers
 abbrev pub numbering : List Flat → List SlotInfo
 numbering flats = rules_from 0 flats
+
+-- whether the slot is of an alternative before alternative a of rule r
+abbrev pub is_before : ℕ → ℕ → SlotInfo → Bool
+is_before r a s = nat_lt s.head r || ((s.head == r) && nat_lt s.alt a)

@@ -1,3 +1,7 @@
+ghost use Rattle.std.specs.Prelude.{◌≡◌, ◌↔◌, IsTrue, nat_lt};
+ghost use Rattle.ix_model.specs.Ranges.{AreApart, IsInRanges};
+
+use sqlite_items::at;
 use std::marker::Model;
 
 /// The characters from `low` to `high`, both included, by their numbers.
@@ -23,4 +27,31 @@ impl Model for CharSet {
     ghost view = { λ s. s.ranges.items };
 
     ghost invariant = { λ s. AreApart s.ranges.items };
+}
+
+impl CharSet {
+    /// The set of these ranges.
+    pub fn of(ranges: Vec<CharRange>) -> CharSet
+        requires { AreApart ranges.items }
+        ensures { result ≡ ranges.items }
+    {
+        CharSet { ranges }
+    }
+
+    /// Whether some range holds the character.
+    pub fn contains(&self, c: char) -> bool
+        ensures { IsTrue result ↔ IsInRanges c self.now }
+    {
+        let c = c as u32;
+        let ranges = self.ranges.as_slice();
+        let before = ranges.partition_point(
+            |range: &CharRange| -> bool
+                ensures { result ≡ nat_lt range.now.high c }
+            { range.high < c },
+        );
+        match at(ranges, before) {
+            Some(range) => range.low <= c,
+            None => false,
+        }
+    }
 }
