@@ -14,6 +14,7 @@ pub mod Once
 pub mod Readers
 pub mod Roots
 pub mod Runs
+pub mod SmallRules
 pub mod SmallTexts
 pub mod Slots
 pub mod Total

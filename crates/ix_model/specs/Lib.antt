@@ -3,6 +3,7 @@ pub mod Classes
 pub mod Codes
 pub mod Derives
 pub mod ExampleGrammars
+pub mod ExampleRules
 pub mod ExampleTrees
 pub mod Expanded
 pub mod ExpansionLaws

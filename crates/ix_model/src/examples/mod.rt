@@ -2,6 +2,9 @@
 
 pub mod derivations;
 pub mod documents;
+pub mod expansion;
 pub mod order;
 pub mod places;
+pub mod plans;
 pub mod terminals;
+pub mod walks;
