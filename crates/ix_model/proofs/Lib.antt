@@ -12,10 +12,12 @@ pub mod LowerOfLift
 pub mod Numbers
 pub mod Once
 pub mod Readers
+pub mod Rereading
 pub mod Roots
 pub mod Runs
 pub mod SmallRules
 pub mod SmallTexts
 pub mod Slots
 pub mod Total
+pub mod Walking
 pub mod Widths

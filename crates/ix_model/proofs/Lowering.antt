@@ -35,14 +35,16 @@ use Rattle.ix_model.proofs.Forms.{same_groups, same_star, same_plus, star_no_plu
 use Rattle.std.proofs.lemmas.Option.{get_or_from_slice_get}
 use Rattle.ix_model.proofs.Lifting.{kind_is, as_many, rules_at, stands_char}
 
-map_get : {A B : Type 0} (f : A → B) (xs : List A) (n : ℕ) (x : A) → slice_get xs n ≡ Some x → slice_get (map f xs) n ≡ Some (f x)
+-- what stands in a list stands mapped in the mapped list
+pub map_get : {A B : Type 0} (f : A → B) (xs : List A) (n : ℕ) (x : A) → slice_get xs n ≡ Some x → slice_get (map f xs) n ≡ Some (f x)
 map_get f [] n x e = absurd (cc e)
 map_get f (y ∷ xs) zero x e =
     let q : y ≡ x = cc e in
     ap (λ z. Some (f z)) q
 map_get f (y ∷ xs) (suc n) x e = map_get f xs n x e
 
-lower_count : (rules : Rules) (ds : Trees) (r a : ℕ) → flat_count (lower_all rules ds r a) ≡ tree_count ds
+-- as many trees
+pub lower_count : (rules : Rules) (ds : Trees) (r a : ℕ) → flat_count (lower_all rules ds r a) ≡ tree_count ds
 lower_count rules no_tree r a = refl
 lower_count rules (and ds d) r a = ap (λ (n : ℕ). n + 1) (lower_count rules ds r a)
 
@@ -111,8 +113,10 @@ module _ (g : Grammar) (rules : Rules) where
 
   -- ---- what a factor of one form becomes
 
-  pub of_insert : (a b : Next) (f : Factor) (x : Sym) → FactorBecomes g rules a f x b → (cs : Chars) → f ≡ Insert cs → x ≡ sy.Insert a.insert
-  of_insert a b f x (X.inserted _ c e) cs q = refl
+  pub of_insert : (a b : Next) (f : Factor) (x : Sym) → FactorBecomes g rules a f x b → (cs : Chars) → f ≡ Insert cs → (x ≡ sy.Insert a.insert) × (slice_get rules.inserts a.insert ≡ Some (characters cs))
+  of_insert a b f x (X.inserted _ c e) cs q =
+      let p : c ≡ cs = cc q in
+      (refl, e ∙ ap (λ z. Some (characters z)) p)
   of_insert a b f x (X.literal _ m c e) cs q = absurd (cc q)
   of_insert a b f x (X.set _ m ex ms e) cs q = absurd (cc q)
   of_insert a b f x (X.called _ m n r e) cs q = absurd (cc q)
@@ -244,7 +248,7 @@ module _ (g : Grammar) (rules : Rules) where
           (h, h', (a.terminal, is_shown_by m.0, terminal.Set f.1.0, f.0, f.1.1, (m.3, (f.1.2 m.3 (stands_char s i m.3 chars m.6.2)).1 m.5, m.6)))
 
       insertion_lowers : Lowers insertion
-      insertion_lowers a b t z i j k h = (a.insert, of_insert a b (Insert h.1.0) z (of_one a b t z k (Insert h.1.0) h.1.1) h.1.0 refl, h.0)
+      insertion_lowers a b t z i j k h = (a.insert, (of_insert a b (Insert h.1.0) z (of_one a b t z k (Insert h.1.0) h.1.1) h.1.0 refl).0, h.0)
 
       node_lowers : (q n : ℕ) (ds : Trees) → AllLower ds → Lowers (node q n ds)
       node_lowers q n ds l a b t z i j k h =

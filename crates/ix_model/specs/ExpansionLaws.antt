@@ -3,9 +3,12 @@ use Rattle.std.specs.Prelude.{◌≡◌, ◌<◌, length, None}
 use Rattle.std.specs.Char.{IsScalar}
 use Rattle.std.specs.List.{AllByRecursion}
 use Rattle.ix_model.specs.declared.grammar.Grammar.{Grammar}
+use Rattle.ix_model.specs.declared.rules.Rules.{Rules}
 use Rattle.ix_model.specs.declared.rules.Sym.TheVariants as sym
 use Rattle.ix_model.specs.Trees.{Tree}
+use Rattle.ix_model.specs.declared.step.Step.{Step}
 use Rattle.ix_model.specs.Derives.{IsDerivation}
+use Rattle.ix_model.specs.Gives.{Givens, gives_root}
 use Rattle.ix_model.specs.Laws.{HasUniqueNames}
 use Rattle.ix_model.specs.Parts.{Parts}
 use Rattle.ix_model.specs.FlatTrees.{FlatTree}
@@ -13,6 +16,8 @@ use Rattle.ix_model.specs.FlatDerives.{IsFlatDerivation}
 use Rattle.ix_model.specs.Expanded.{Expanded}
 use Rattle.ix_model.specs.Lift.{lift}
 use Rattle.ix_model.specs.Lower.{lower}
+use Rattle.ix_model.specs.Walk.{walk}
+use Rattle.ix_model.specs.WalkGives.{WalkGives}
 
 -- the plan is of the rules of a grammar that has a first rule and unique names, and its text is made of characters
 pub record IsPlanOf (g : Grammar) (plan : Parts) : Type 0 where
@@ -32,3 +37,13 @@ abbrev pub LowerIsExact : Type 0
 LowerIsExact =
     (g : Grammar) (plan : Parts) (d : Tree) → IsPlanOf g plan → IsDerivation g plan.text d →
     IsFlatDerivation plan (lower plan.rules d (sym.Rule 0 None)) × (lift plan.rules (lower plan.rules d (sym.Rule 0 None)) ≡ d)
+
+-- the walk of a flat derivation gives what its written tree gives to the document
+abbrev pub WalkGivesDocument : Type 0
+WalkGivesDocument =
+    (g : Grammar) (plan : Parts) (e : FlatTree) → IsPlanOf g plan → IsFlatDerivation plan e →
+    WalkGives plan.rules plan.text (walk plan.rules e (sym.Rule 0 None)) (gives_root plan.text g (lift plan.rules e))
+
+-- no walk gives two things
+abbrev pub WalkGivesOnce : Type 0
+WalkGivesOnce = (rules : Rules) (s : List ℕ) (steps : List Step) (gs hs : Givens) → WalkGives rules s steps gs → WalkGives rules s steps hs → gs ≡ hs

@@ -27,5 +27,6 @@ pub mod Slots
 pub mod Terminals
 pub mod Trees
 pub mod Walk
+pub mod WalkGives
 pub mod Written
 pub mod Xml

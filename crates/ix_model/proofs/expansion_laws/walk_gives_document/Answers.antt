@@ -1,0 +1,19 @@
+use Rattle.std.proofs.Common.{refl, subst}
+use Rattle.ix_model.specs.declared.rules.Sym.TheVariants as sy
+use Rattle.std.proofs.Common.{None}
+use Rattle.ix_model.specs.Bare.{bare_root}
+use Rattle.ix_model.specs.Lift.{lift}
+use Rattle.ix_model.specs.Walk.{walk}
+use Rattle.ix_model.specs.WalkGives.{AreWalks}
+use Rattle.ix_model.proofs.Lifting.{lift_derives, first_of}
+use Rattle.ix_model.proofs.LowerOfLift.{lower_lift}
+use Rattle.ix_model.proofs.Walking.{derivation_walks}
+use Rattle.ix_model.proofs.expansion_laws.walk_gives_document.Goals as goal
+
+pub returns : goal.returns
+returns c = λ g plan e p h.
+    let rule = first_of g.rules p.first in
+    let written = lift_derives g plan.rules plan.slots plan.text p.text p.expanded rule.0 rule.1 e h in
+    let same = lower_lift g plan.rules plan.slots plan.text p.text p.expanded rule.0 rule.1 e h in
+    let walks = derivation_walks g plan.rules plan.text p.expanded p.unique (lift plan.rules e) written in
+    (bare_root g (lift plan.rules e), subst (λ y. AreWalks plan.rules (bare_root g (lift plan.rules e)) (walk plan.rules y (sy.Rule 0 None))) same walks, refl)
