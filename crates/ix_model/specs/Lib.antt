@@ -1,4 +1,5 @@
 pub mod Bare
+pub mod Characters
 pub mod Classes
 pub mod Codes
 pub mod Derives
@@ -28,5 +29,11 @@ pub mod Terminals
 pub mod Trees
 pub mod Walk
 pub mod WalkGives
+pub mod Spacing
+pub mod SpellingLaws
+pub mod Spells
+pub mod Terminals
+pub mod Trees
+pub mod Words
 pub mod Written
 pub mod Xml

@@ -9,6 +9,7 @@ mod grammar;
 pub mod laws;
 mod plan;
 mod rules;
+pub mod spelling_laws;
 mod state;
 mod step;
 mod sub;
