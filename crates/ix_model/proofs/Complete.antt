@@ -501,7 +501,7 @@ spelled_reads c g h = spells_read g c h
 same_token : (t u : Token) → t.gap ≡ u.gap → t.lexeme ≡ u.lexeme → t ≡ u
 same_token t u p q = ap₂ (λ (a : Bool) (k : Lexeme). let x : Token = record { gap = a; lexeme = k } in x) p q
 
-same_some : (a b : Lexeme × List ℕ) → Some a ≡ Some b → a ≡ b
+pub same_some : (a b : Lexeme × List ℕ) → Some a ≡ Some b → a ≡ b
 same_some a b e = cc e
 
 token_solid_next : (c : List ℕ) (v : Lexeme × List ℕ) → next c ≡ Some v → c ≡ [] → ⊥

@@ -1,6 +1,7 @@
 pub mod Accepting
 pub mod Asym
 pub mod Children
+pub mod ByReading
 pub mod CharacterFacts
 pub mod Complete
 pub mod Forming

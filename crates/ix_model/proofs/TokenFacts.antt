@@ -63,7 +63,7 @@ hex_next x c e v k = go v.0 v.1 k
   where
     go : (ds r : List ℕ) → (c ≡ ds ++ r) × AllByRecursion (λ d. IsTrue (is_hex_digit d)) ds → OnNext (x ∷ c) (hex_of (ds, r))
     go [] r k = tt
-    go (d ∷ ds) r k = (ap₂ (λ (y : ℕ) (z : List ℕ). y ∷ z) e k.0, λ h. cc h, k.1)
+    go (d ∷ ds) r k = (ap₂ (λ (y : ℕ) (z : List ℕ). y ∷ z) e k.0, (λ h. cc h, k.1))
 
 pair_next : (x n : ℕ) (c : List ℕ) (one two : Lexeme) → x ≡ n → ((c : List ℕ) → TokenAt (n ∷ c) c one) → ((c : List ℕ) → TokenAt (n ∷ n ∷ c) c two) → OnNext (x ∷ c) (if begins n c then Some (two, rest_of c) else Some (one, c))
 pair_next x n [] one two e h k = subst (λ (y : ℕ). TokenAt (y ∷ []) [] one) (sym e) (h [])
@@ -184,9 +184,9 @@ token_reads b r (word n) (e, (x, xs, f, h, run), w) fits =
     let t : next (x ∷ (xs ++ r)) ≡ Some (word (x ∷ xs), r) = rw (h) (ap (λ (v : Read). Some (word v.0, v.1)) k) in
     ap next (e ∙ ap (λ (z : List ℕ). z ++ r) f) ∙ t ∙ ap (λ (z : List ℕ). Some (word z, r)) (sym f)
 token_reads b r (quote xs) (q, h, line, e) fits = ap next e ∙ quote_reads q xs r (two q 34 39 h) line fits
-token_reads b r (hex []) h fits = absurd (h.1 refl)
+token_reads b r (hex []) h fits = absurd (h.1.0 refl)
 token_reads b r (hex (d ∷ ds)) h fits =
-    let k : digits_of (d ∷ (ds ++ r)) ≡ (d ∷ ds, r) = digits_read (d ∷ ds) r h.2 fits in
+    let k : digits_of (d ∷ (ds ++ r)) ≡ (d ∷ ds, r) = digits_read (d ∷ ds) r h.1.1 fits in
     let t : next (35 ∷ d ∷ (ds ++ r)) ≡ Some (hex (d ∷ ds), r) = rw ((see 35 refl).no_start) (ap hex_of k) in
     ap next h.0 ∙ t
 token_reads b r at h fits = mark_reads 64 b r _ h (see 64 refl).no_start refl refl

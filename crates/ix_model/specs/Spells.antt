@@ -60,9 +60,13 @@ StringAt b r xs = (q : ℕ) × IsTrue (is_one_of (codes "\"'") q) × IsOneLine x
 abbrev pub is_hex_digit : ℕ → Bool
 is_hex_digit = is_one_of (codes "0123456789abcdefABCDEF")
 
--- `#` and one hexadecimal digit or more
+-- one hexadecimal digit or more
+abbrev pub IsHex : List ℕ → Type 0
+IsHex digits = (digits ≢ []) × AllByRecursion (λ d. IsTrue (is_hex_digit d)) digits
+
+-- `#` and hexadecimal digits
 abbrev pub HexAt : List ℕ → List ℕ → List ℕ → Type 0
-HexAt b r digits = (b ≡ codes "#" ++ (digits ++ r)) × (digits ≢ []) × AllByRecursion (λ d. IsTrue (is_hex_digit d)) digits
+HexAt b r digits = (b ≡ codes "#" ++ (digits ++ r)) × IsHex digits
 
 -- the characters of a literal or an insertion, and spacing behind them
 pub data CharsAt : List ℕ → List ℕ → Chars → Type 0 where
