@@ -1,10 +1,15 @@
 -- What given characters spell, found by reading them: each question comes down to one computation.
-use Rattle.std.proofs.Common.{◌≡◌, ◌≢◌, refl, sym, ap, ◌∙◌, subst, ℕ, List, [], ◌∷◌, Option, Some, None}
-use Rattle.std.specs.Prelude.{Bool}
+use Rattle.std.proofs.Common.{◌≡◌, ◌≢◌, refl, sym, ap, ◌∙◌, subst, ℕ, List, [], ◌∷◌, ◌++◌, length, Option, Some, None}
+use Rattle.std.specs.Prelude.{Bool, true, false, ◌==◌}
+use Rattle.std.proofs.lemmas.Bool.{eq-eqb}
 use Rattle.ix_model.specs.declared.grammar.Grammar.{Grammar}
+use Rattle.ix_model.specs.Characters.{is_name_start}
+use Rattle.ix_model.specs.Words.{IsWord, NameAt}
 use Rattle.ix_model.specs.Spells.{Spells}
-use Rattle.ix_model.proofs.Lexing.{Lexeme, Token, after, has_gap, next, Lexes}
+use Rattle.ix_model.proofs.Lexing.{Lexeme, Token, after, has_gap, next, Lexes, Read, word_of}
 use Rattle.ix_model.proofs.Machine as M
+use Rattle.ix_model.proofs.CharacterFacts.{start_is_part}
+use Rattle.ix_model.proofs.LexemeFacts.{word_reads, WordRead, word_read}
 use Rattle.ix_model.proofs.Sound.{reads_spelled}
 use Rattle.ix_model.proofs.Complete.{spelled_reads, lexes_once, same_some}
 
@@ -97,3 +102,21 @@ reads c g e = subst (Tells c) e (found_tells c (find_tokens (0 ∷ c) c) (found_
 -- characters that are read as none spell none
 pub reads_none : (c : List ℕ) → reading c ≡ Some None → (g : Grammar) → ¬ (Spells c g)
 reads_none c e = subst (Tells c) e (found_tells c (find_tokens (0 ∷ c) c) (found_fits (0 ∷ c) c))
+
+-- a word that is read and begins as a name does is a name
+pub names : (c r : List ℕ) (x : ℕ) (xs : List ℕ) → is_name_start x ≡ true → word_of c ≡ (x ∷ xs, r) → NameAt c r (x ∷ xs)
+names c r x xs h e =
+    let w : WordRead c (x ∷ xs) r = subst (λ (v : Read). WordRead c v.0 v.1) e (word_read c) in
+    (w.text, (x, xs, refl, h, w.run.1), w.word)
+
+-- a name is the word that is read
+pub name_is_read : (c r name : List ℕ) → NameAt c r name → word_of c ≡ (name, r)
+name_is_read c r name (e, (x, xs, f, h, run), w) =
+    let k : word_of ((x ∷ xs) ++ r) ≡ (x ∷ xs, r) = word_reads (x ∷ xs) r (start_is_part x h, run) (subst (λ (z : List ℕ). IsWord z r) f w) in
+    ap word_of (e ∙ ap (λ (z : List ℕ). z ++ r) f) ∙ k ∙ ap (λ (z : List ℕ). let v : Read = (z, r) in v) (sym f)
+
+-- a name that is longer or shorter than the word that is read stands nowhere
+pub no_name : (c r name : List ℕ) → (length (word_of c).0 == length name) ≡ false → ¬ (NameAt c r name)
+no_name c r name e h =
+    let p : length (word_of c).0 ≡ length name = ap (λ (v : Read). length v.0) (name_is_read c r name h) in
+    cc (e, eq-eqb _ _ p)

@@ -4,6 +4,7 @@ pub mod Children
 pub mod ByReading
 pub mod CharacterFacts
 pub mod Complete
+pub mod Folds
 pub mod Forming
 pub mod Forms
 pub mod Held

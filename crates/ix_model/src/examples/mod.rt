@@ -1,10 +1,12 @@
 //! Worked examples of the definitions, each proved: what holds, and beside it what does not.
 
+pub mod depth;
 pub mod derivations;
 pub mod documents;
 pub mod expansion;
 pub mod order;
 pub mod places;
 pub mod plans;
+pub mod spelling;
 pub mod terminals;
 pub mod walks;
