@@ -8,6 +8,16 @@ pub mod Folds
 pub mod Forming
 pub mod Forms
 pub mod Held
+pub mod Choice
+pub mod Decide
+pub mod Forming
+pub mod Forms
+pub mod Found
+pub mod FoundLists
+pub mod FoundNodes
+pub mod FoundSequences
+pub mod FoundTerms
+pub mod FoundWithin
 pub mod Inversions
 pub mod Lifting
 pub mod LiftOfLower
@@ -33,6 +43,7 @@ pub mod Sound
 pub mod SpacingFacts
 pub mod TokenFacts
 pub mod Tokens
+pub mod Standing
 pub mod Total
 pub mod Walking
 pub mod Widths

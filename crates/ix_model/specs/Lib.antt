@@ -1,6 +1,7 @@
 pub mod Bare
 pub mod Breach
 pub mod Characters
+pub mod Choice
 pub mod Classes
 pub mod Codes
 pub mod ConformanceLaws

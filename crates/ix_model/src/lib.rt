@@ -3,6 +3,7 @@
 
 mod char_set;
 mod counts;
+pub mod choice_laws;
 pub mod examples;
 pub mod expansion_laws;
 mod grammar;
