@@ -35,18 +35,18 @@ forms_text = codes "@S = b?, -c*, ^[\"a\"-#7A; Lu | 'x']; ~[]+, \"d\"\"e\"**-#2c
 abbrev pub forms : Grammar
 forms = grammar (marked_rule (Some Attribute) (codes "S") (
     alternative (
-        Opt (Call None (codes "b"))
-        ∷ Star (Call (Some Hidden) (codes "c")) None
-        ∷ One (Set (Some Shown) false (member.Range (bound.Quoted 97) (bound.Code (codes "7A")) ∷ member.Class (codes "Lu") ∷ member.Quoted (codes "x") ∷ []))
-        ∷ [])
+    Opt (Call None (codes "b"))
+    ∷ Star (Call (Some Hidden) (codes "c")) None
+    ∷ One (Set (Some Shown) false (member.Range (bound.Quoted 97) (bound.Code (codes "7A")) ∷ member.Class (codes "Lu") ∷ member.Quoted (codes "x") ∷ []))
+    ∷ [])
     ∷ alternative (
-        Plus (Set None true []) None
-        ∷ Star (literal (codes "d\"e")) (Some (Lit (Some Deleted) (Code (codes "2c"))))
-        ∷ [])
+    Plus (Set None true []) None
+    ∷ Star (literal (codes "d\"e")) (Some (Lit (Some Deleted) (Code (codes "2c"))))
+    ∷ [])
     ∷ alternative (
-        inserted (codes "f")
-        ∷ One (Group (alternative (Plus (Call None (codes "S")) (Some (Group (alternative (call (codes "g") ∷ []) ∷ []))) ∷ []) ∷ []))
-        ∷ [])
+    inserted (codes "f")
+    ∷ One (Group (alternative (Plus (Call None (codes "S")) (Some (Group (alternative (call (codes "g") ∷ []) ∷ []))) ∷ []) ∷ []))
+    ∷ [])
     ∷ []) ∷ [])
 
 -- ---- parts
@@ -77,10 +77,10 @@ two_deep = of_term (One (in_parentheses (One (in_parentheses (quoted (codes "a")
 abbrev pub in_order : Grammar
 in_order = grammar (
     rule (codes "S") (alternative (
-        Star (in_parentheses (call (codes "b"))) (Some (in_parentheses (One (in_parentheses (call (codes "c"))))))
-        ∷ numbered (codes "1")
-        ∷ Opt (in_parentheses (One (Set None false (member.Code (codes "2") ∷ member.Class (codes "L") ∷ member.Range (bound.Code (codes "3")) (bound.Code (codes "4")) ∷ []))))
-        ∷ []) ∷ [])
+    Star (in_parentheses (call (codes "b"))) (Some (in_parentheses (One (in_parentheses (call (codes "c"))))))
+    ∷ numbered (codes "1")
+    ∷ Opt (in_parentheses (One (Set None false (member.Code (codes "2") ∷ member.Class (codes "L") ∷ member.Range (bound.Code (codes "3")) (bound.Code (codes "4")) ∷ []))))
+    ∷ []) ∷ [])
     ∷ rule (codes "d") (alternative (call (codes "e") ∷ []) ∷ alternative (One (Insert (Code (codes "5"))) ∷ []) ∷ []) ∷ [])
 
 -- S: ["z"-"a"]. b: #D800.

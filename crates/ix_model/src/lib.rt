@@ -2,8 +2,8 @@
 #![tactic(auto)]
 
 mod char_set;
-mod counts;
 pub mod choice_laws;
+mod counts;
 pub mod examples;
 pub mod expansion_laws;
 mod grammar;

@@ -148,7 +148,9 @@ impl Plan {
         ensures there { IfSome result (IsThere self.now.rules) }
     {
         let info = self.info(slot);
-        self.syms(info.head, info.alt).get(info.dot as usize).copied()
+        self.syms(info.head, info.alt)
+            .get(info.dot as usize)
+            .copied()
     }
 
     /// The slot with the dot one further.

@@ -40,7 +40,7 @@ pub fn comments_within_comments()
     ensures some { RS (codes "{a {b} c}S") (codes "S") }
     ensures none { ¬ (RS (codes "S") (codes "S")) }
     ensures unfinished { ¬ (S (codes "{a {b} c") []) }
-    ensures all { AllSpacing (codes " {a}\u{9}S") (codes "S") }
+    ensures all { AllSpacing (codes " {a}\tS") (codes "S") }
     ensures not_all { ¬ (AllSpacing (codes " {a} S") (codes " S")) }
 {}
 

@@ -21,7 +21,7 @@ returns-clause-unfinished c = λ h. let p : codes "{a {b} c" ≡ [] = spacing_ru
 
 pub returns-clause-all : goal.returns-clause-all
 unfolding is_blank is_name_start is_name_part general_category value_in general_category_rows
-returns-clause-all c = after_is_all (codes " {a}\u{9}S")
+returns-clause-all c = after_is_all (codes " {a}\tS")
 
 pub returns-clause-not_all : goal.returns-clause-not_all
 unfolding is_blank is_name_start is_name_part general_category value_in general_category_rows

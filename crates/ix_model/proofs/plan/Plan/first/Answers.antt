@@ -15,4 +15,4 @@ returns c =
     let split = subst (λ (xs : List SlotInfo). IsPartitionedBy (is_before c.args.rule c.args.alt) xs) (sym same) (split_by c.args.self.now planned c.args.rule c.args.alt) in
     let point = IsPartitionPoint-from_clause (is_before c.args.rule c.args.alt) _ _ c.partition_point.ensures.partitioned split (λ a r q k. search rules) in
     first_is c.args.self.now planned c.args.rule c.args.alt c.partition_point.result c.requires.rule c.requires.alt (omega (arith, c.partition_point.ensures.bound, ap (λ (xs : List SlotInfo). length xs) same))
-        (subst (λ (xs : List SlotInfo). IsPartitionPoint (λ s. is_before c.args.rule c.args.alt s ≡ true) (λ s. is_before c.args.rule c.args.alt s ≡ false) xs c.partition_point.result) same point)
+    (subst (λ (xs : List SlotInfo). IsPartitionPoint (λ s. is_before c.args.rule c.args.alt s ≡ true) (λ s. is_before c.args.rule c.args.alt s ≡ false) xs c.partition_point.result) same point)
