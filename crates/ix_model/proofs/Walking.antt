@@ -8,8 +8,8 @@ use Rattle.ix_model.specs.declared.grammar.Rule.{Rule}
 use Rattle.ix_model.specs.declared.grammar.Mark.{Mark}
 use Rattle.ix_model.specs.declared.grammar.Mark.TheVariants.{Element}
 use Rattle.ix_model.specs.declared.grammar.Alt.{Alt}
-use Rattle.ix_model.specs.declared.grammar.Term.{Term, One, Opt, Star, Plus}
-use Rattle.ix_model.specs.declared.grammar.Factor.{Factor, Lit, Set, Call, Insert, Group, out-Factor}
+use Rattle.ix_model.specs.declared.grammar.Term.{Term, One}
+use Rattle.ix_model.specs.declared.grammar.Factor.{Factor, Lit, Set, Call, Insert, Group}
 use Rattle.ix_model.specs.declared.rules.Kind.{Kind}
 use Rattle.ix_model.specs.declared.rules.Kind.TheVariants as kind
 use Rattle.ix_model.specs.declared.rules.Sym.{Sym}
@@ -21,7 +21,7 @@ use Rattle.ix_model.specs.Codes.{characters}
 use Rattle.ix_model.specs.Laws.{HasUniqueNames}
 use Rattle.ix_model.specs.Trees.{Tree, text, insertion, node, group, present, absent, no_item, list, Trees, no_tree, and, Repeated, one, again, again_after, tree_count}
 use Rattle.ix_model.specs.Derives.{Derives, DerivesFirst, Repeats, IsDerivation}
-use Rattle.ix_model.specs.Bare.{Bare, bare_text, bare_insertion, bare_node, Bares, none, more, join, factor_of, separator_of, is_shown_by, is_shown_in, inserted_in, call_mark_in, alts_in, terms_at, effective, rule_alts, rule_name, rule_mark, bare, bare_all, bare_repeated, bare_root, no_term, no_factor}
+use Rattle.ix_model.specs.Bare.{Bare, bare_text, bare_insertion, bare_node, Bares, none, more, join, factor_of, separator_of, is_shown_by, terms_at, effective, rule_alts, rule_name, rule_mark, bare, bare_all, bare_repeated, bare_root, no_term}
 use Rattle.ix_model.specs.FlatTrees.{FlatTrees, flat_node, flats_and, no_flat}
 use Rattle.ix_model.specs.Expanded as X
 use Rattle.ix_model.specs.Expanded.{Next, next_syms, HasFlat, TermBecomes, RepeatBecomes, SeparatorBecomes, FactorBecomes, AltsBecome, TermsBecome, Expanded}

@@ -1,5 +1,5 @@
 -- Laws of the expansion: derivations over the written grammar and over its numbered rules correspond one to one.
-use Rattle.std.specs.Prelude.{◌≡◌, ◌<◌, length, None}
+use Rattle.std.specs.Prelude.{◌≡◌, ◌<◌, ℕ, List, length, None}
 use Rattle.std.specs.Char.{IsScalar}
 use Rattle.std.specs.List.{AllByRecursion}
 use Rattle.ix_model.specs.declared.grammar.Grammar.{Grammar}
