@@ -6,8 +6,8 @@ use Rattle.ix_model.specs.declared.grammar.Grammar.{Grammar}
 use Rattle.ix_model.specs.Characters.{is_name_start}
 use Rattle.ix_model.specs.Words.{IsWord, NameAt}
 use Rattle.ix_model.specs.Spells.{Spells}
-use Rattle.ix_model.proofs.Lexing.{Lexeme, Token, after, has_gap, next, Lexes, Read, word_of}
-use Rattle.ix_model.proofs.Machine as M
+use Rattle.ix_model.specs.Reading.Lexing.{Lexeme, Token, after, has_gap, next, Lexes, Read, word_of}
+use Rattle.ix_model.specs.Reading.Machine as M
 use Rattle.ix_model.proofs.CharacterFacts.{start_is_part}
 use Rattle.ix_model.proofs.LexemeFacts.{word_reads, WordRead, word_read}
 use Rattle.ix_model.proofs.Sound.{reads_spelled}

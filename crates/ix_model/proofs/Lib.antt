@@ -18,13 +18,11 @@ pub mod FoundWithin
 pub mod Held
 pub mod Inversions
 pub mod LexemeFacts
-pub mod Lexing
 pub mod LiftOfLower
 pub mod Lifting
 pub mod Lines
 pub mod LowerOfLift
 pub mod Lowering
-pub mod Machine
 pub mod Numbers
 pub mod Once
 pub mod Readers
@@ -39,7 +37,6 @@ pub mod Sound
 pub mod SpacingFacts
 pub mod Standing
 pub mod TokenFacts
-pub mod Tokens
 pub mod Total
 pub mod Walking
 pub mod Widths

@@ -16,7 +16,7 @@ use Rattle.ix_model.specs.declared.grammar.Factor.{Factor, Lit, Set, Call, Inser
 use Rattle.ix_model.specs.Spacing.{Takes, S, RS}
 use Rattle.ix_model.specs.Words.{NameAt}
 use Rattle.ix_model.specs.Spells.{StringAt, CharsAt, BoundAt, MembersAt, SetAt, AltsAt, TermsAt, FactorAt, RulesAt, Spells}
-use Rattle.ix_model.proofs.Machine
+use Rattle.ix_model.specs.Reading.Machine
 
 -- ---- parts of a rule
 

@@ -4,7 +4,7 @@ use Rattle.std.proofs.lemmas.Bool.{eqb-true}
 use Rattle.std.specs.Prelude.{Bool, true, false, not, ◌||◌, ◌==◌, if◌then◌else◌, IsTrue, codes}
 use Rattle.ix_model.specs.Characters.{is_blank}
 use Rattle.ix_model.specs.Spacing.{Takes, Spacing, no_spacing, blank, comment, Comment, braces, Inside, end_inside, other, nested, AllSpacing}
-use Rattle.ix_model.proofs.Lexing.{spaced, after}
+use Rattle.ix_model.specs.Reading.Lexing.{spaced, after}
 use Rattle.ix_model.proofs.CharacterFacts.{brace_no_blank}
 
 pub saved_free : (c s t : List ℕ) → spaced zero s c ≡ spaced zero t c

@@ -29,6 +29,7 @@ pub mod Parts
 pub mod Plain
 pub mod Planned
 pub mod Ranges
+pub mod Reading
 pub mod Sets
 pub mod Slots
 pub mod Spacing

@@ -3,7 +3,7 @@ use Rattle.std.specs.Prelude.{ℕ, List, codes}
 use Rattle.ix_model.specs.Spacing.{Takes}
 use Rattle.ix_model.specs.Words.{NameAt}
 use Rattle.ix_model.specs.Spells.{StringAt, HexAt}
-use Rattle.ix_model.proofs.Lexing.{Lexeme, word, quote, hex, at, caret, dash, colon, equals, semi, bar, comma, stop, question, star, stars, plus, pluses, open_group, close_group, open_set, close_set, tilde}
+use Rattle.ix_model.specs.Reading.Lexing.{Lexeme, word, quote, hex, at, caret, dash, colon, equals, semi, bar, comma, stop, question, star, stars, plus, pluses, open_group, close_group, open_set, close_set, tilde}
 
 -- b begins with a spelling of the token, and r is what follows
 abbrev pub TokenAt : List ℕ → List ℕ → Lexeme → Type 0

@@ -1,4 +1,4 @@
--- The tokens of a grammar's text, as functions. This is one way to read a grammar, and no part of what `Spells` means.
+-- The tokens of a grammar's text, as functions.
 use Rattle.std.specs.Prelude.{◌≡◌, ℕ, zero, suc, Bool, true, false, ◌&&◌, ◌==◌, if◌then◌else◌, List, [], ◌∷◌, codes, Option, Some, None, length, nat_lt, option_map}
 use Rattle.ix_model.specs.Characters.{is_one_of, is_blank, is_name_start, is_name_part}
 use Rattle.ix_model.specs.Words.{gives_back, ends_run}
