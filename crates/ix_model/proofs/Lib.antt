@@ -7,6 +7,7 @@ pub mod Choice
 pub mod Complete
 pub mod Decide
 pub mod Folds
+pub mod Covering
 pub mod Forming
 pub mod Forms
 pub mod Found

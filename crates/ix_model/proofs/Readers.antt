@@ -30,7 +30,7 @@ pub record HasLine (rules : Rules) (r a : ℕ) : Type 0 where
   pub flat_at : slice_get rules.flats r ≡ Some flat
   pub line_at : slice_get flat.lines a ≡ Some line
 
-get_within : {A : Type 0} (xs : List A) (n : ℕ) → n < length xs → (x : A) × (slice_get xs n ≡ Some x)
+pub get_within : {A : Type 0} (xs : List A) (n : ℕ) → n < length xs → (x : A) × (slice_get xs n ≡ Some x)
 get_within [] n h = absurd (omega (arith, h))
 get_within (x ∷ xs) zero h = (x, refl)
 get_within (x ∷ xs) (suc n) h = get_within xs n (omega (arith, h))

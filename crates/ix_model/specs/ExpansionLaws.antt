@@ -1,5 +1,5 @@
 -- Laws of the expansion: derivations over the written grammar and over its numbered rules correspond one to one.
-use Rattle.std.specs.Prelude.{◌≡◌, ◌<◌, ℕ, List, length, None}
+use Rattle.std.specs.Prelude.{◌≡◌, ◌<◌, ◌^◌, ℕ, List, length, None}
 use Rattle.std.specs.Char.{IsScalar}
 use Rattle.std.specs.List.{AllByRecursion}
 use Rattle.ix_model.specs.declared.grammar.Grammar.{Grammar}
@@ -13,6 +13,8 @@ use Rattle.ix_model.specs.Laws.{HasUniqueNames}
 use Rattle.ix_model.specs.Parts.{Parts}
 use Rattle.ix_model.specs.FlatTrees.{FlatTree}
 use Rattle.ix_model.specs.FlatDerives.{IsFlatDerivation}
+use Rattle.ix_model.specs.Numbering.{numbering}
+use Rattle.ix_model.specs.Planned.{IsPlanned}
 use Rattle.ix_model.specs.Expanded.{Expanded}
 use Rattle.ix_model.specs.Lift.{lift}
 use Rattle.ix_model.specs.Lower.{lower}
@@ -47,3 +49,9 @@ WalkGivesDocument =
 -- no walk gives two things
 abbrev pub WalkGivesOnce : Type 0
 WalkGivesOnce = (rules : Rules) (s : List ℕ) (steps : List Step) (gs hs : Givens) → WalkGives rules s steps gs → WalkGives rules s steps hs → gs ≡ hs
+
+-- the rules of a grammar with a first rule, their slots and a text are a plan where their numbers have 32 bits
+abbrev pub ExpandedIsPlanned : Type 0
+ExpandedIsPlanned =
+    (g : Grammar) (plan : Parts) → 0 < length g.rules → Expanded g plan.rules → plan.slots ≡ numbering plan.rules.flats →
+    length plan.rules.flats < 2 ^ 32 → length plan.slots < 2 ^ 32 → length plan.text < 2 ^ 32 → IsPlanned plan

@@ -1,5 +1,5 @@
 //! Laws of the numbered rules. Each function's contract is the law; the bodies are empty.
-ghost use Rattle.ix_model.specs.ExpansionLaws.{LiftIsExact, LowerIsExact, WalkGivesDocument, WalkGivesOnce};
+ghost use Rattle.ix_model.specs.ExpansionLaws.{ExpandedIsPlanned, LiftIsExact, LowerIsExact, WalkGivesDocument, WalkGivesOnce};
 
 /// The lift of a derivation over the numbered rules is a derivation of the text, and lowered again it is itself.
 pub fn lift_is_exact()
@@ -19,4 +19,9 @@ pub fn walk_gives_document()
 /// No walk gives two things.
 pub fn walk_gives_once()
     ensures { WalkGivesOnce }
+{}
+
+/// The numbered rules of a grammar with their slots and a text are a plan, where their numbers have 32 bits.
+pub fn expanded_is_planned()
+    ensures { ExpandedIsPlanned }
 {}
