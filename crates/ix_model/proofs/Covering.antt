@@ -14,7 +14,6 @@ use Rattle.ix_model.specs.declared.grammar.Factor.{Factor}
 use Rattle.ix_model.specs.declared.rules.Kind.{Kind}
 use Rattle.ix_model.specs.declared.rules.Kind.TheVariants as kind
 use Rattle.ix_model.specs.declared.rules.Sym.{Sym}
-use Rattle.ix_model.specs.declared.rules.Sym.TheVariants as sy
 use Rattle.ix_model.specs.declared.rules.Line.{Line}
 use Rattle.ix_model.specs.declared.rules.Rules.{Rules}
 use Rattle.ix_model.specs.Numbered.{kind_at, syms_at}

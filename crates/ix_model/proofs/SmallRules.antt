@@ -1,7 +1,8 @@
 -- The numbered rules of small grammars, for the worked examples.
-use Rattle.std.proofs.Common.{◌≡◌, refl, ap, ◌∙◌, ℕ, [], ◌∷◌, Option, Some, None}
+use Rattle.std.proofs.Common.{◌≡◌, refl, sym, ap, ◌∙◌, ℕ, [], ◌∷◌, Option, Some, None, arith, slice_get}
 use Rattle.std.specs.Prelude as S
 use Rattle.ix_model.specs.declared.grammar.Term.{Term, One}
+use Rattle.ix_model.specs.declared.grammar.Factor.{Insert}
 use Rattle.ix_model.specs.declared.grammar.Chars.TheVariants.{Quoted}
 use Rattle.ix_model.specs.declared.rules.Kind.TheVariants as kind
 use Rattle.ix_model.specs.declared.rules.Sym.{Sym}
@@ -10,10 +11,13 @@ use Rattle.ix_model.specs.declared.rules.Rules.{Rules}
 use Rattle.ix_model.specs.Numbered.{kind_at, syms_at, sym_at}
 use Rattle.ix_model.specs.Expanded as X
 use Rattle.ix_model.specs.Expanded.{Next, line, HasFlat, TermBecomes, Expanded}
-use Rattle.ix_model.specs.ExampleGrammars.{literal, quoted, only_a, of_term, a_or_b, alternative, rule}
-use Rattle.ix_model.specs.ExampleRules.{shown, helper, a_rules, a_option, option_rules, group_rules, a_list, list_rules, never_empty}
+use Rattle.ix_model.specs.ExampleGrammars.{literal, quoted, inserted, only_a, of_term, a_or_b, alternative, rule}
+use Rattle.ix_model.specs.ExampleRules.{shown, helper, a_rules, a_plan, insert_rules, a_option, option_rules, group_rules, a_list, list_rules, never_empty}
+use Rattle.ix_model.specs.ExpansionLaws.{IsPlanOf}
+use Rattle.ix_model.proofs.Inversions.{only_rule}
+use Rattle.ix_model.proofs.SmallTexts.{first}
 use Rattle.ix_model.proofs.Lifting.{kind_is, rules_at}
-use Rattle.ix_model.proofs.Lowering.{to_alt, to_term, sym_is, of_one, of_literal, of_option, of_star, of_group}
+use Rattle.ix_model.proofs.Lowering.{to_alt, to_term, sym_is, of_one, of_literal, of_insert, of_option, of_star, of_group}
 use Rattle.ix_model.proofs.Readers.{syms_is}
 
 -- ---- what the rules of a grammar of one term are
@@ -89,7 +93,45 @@ expands_list = record {
   insert_count = refl;
 }
 
+pub expands_insertion : Expanded (of_term (inserted (S.codes "x"))) insert_rules
+expands_insertion = record {
+  end = record { rule = 1; terminal = 0; insert = 1 };
+  names = refl;
+  marks = refl;
+  walk = X.and_rule _ _ _ _ _ _ ((sy.Insert 0 ∷ []) ∷ []) refl (X.and_alt _ _ _ _ _ _ _ (X.and_term _ _ _ _ _ _ _ (X.alone _ _ _ _ (X.inserted _ _ refl)) (X.no_term _)) (X.no_alt _)) (X.no_rule _ _);
+  rule_count = refl;
+  terminal_count = refl;
+  insert_count = refl;
+}
+
+-- a plan of S: "a".
+pub plan_of_a : IsPlanOf only_a (a_plan (S.codes "a"))
+plan_of_a = record {
+  text = (refl, tt);
+  unique = λ r q name h k. only_rule _ r name h ∙ sym (only_rule _ q name k);
+  first = omega arith;
+  expanded = expands_a;
+}
+
 -- ---- what is not
+
+pub option_has_helper : Expanded (of_term a_option) a_rules → ⊥
+option_has_helper e =
+    let b = of_only a_option a_rules e in
+    let o = of_option (of_term a_option) a_rules b.start b.end a_option b.symbol b.becomes (literal (S.codes "a")) refl in
+    cc (b.at, o.1)
+
+pub insertion_of_y : Expanded (of_term (inserted (S.codes "y"))) insert_rules → ⊥
+insertion_of_y e =
+    let t = inserted (S.codes "y") in
+    let b = of_only t insert_rules e in
+    let f = of_one (of_term t) insert_rules b.start b.end t b.symbol b.becomes (Insert (Quoted (S.codes "y"))) refl in
+    let o = of_insert (of_term t) insert_rules b.start b.end (Insert (Quoted (S.codes "y"))) b.symbol f (Quoted (S.codes "y")) refl in
+    let n : sy.Insert 0 ≡ sy.Insert b.start.insert = b.at ∙ o.0 in
+    let r : 0 ≡ b.start.insert = cc n in
+    let q : Some (S.codes "x") ≡ Some (S.codes "y") = ap (slice_get (S.codes "x" ∷ [])) r ∙ o.1 in
+    let w : S.codes "x" ≡ S.codes "y" = cc q in
+    omega (arith, ap first w)
 
 pub literal_has_no_helper : Expanded only_a option_rules → ⊥
 literal_has_no_helper e =

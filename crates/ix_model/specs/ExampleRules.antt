@@ -14,7 +14,7 @@ use Rattle.ix_model.specs.declared.char_set.CharRange.{CharRange}
 use Rattle.ix_model.specs.Parts.{Parts}
 use Rattle.ix_model.specs.Numbering.{slot}
 use Rattle.ix_model.specs.Trees.{Tree, text, list, one, again_after}
-use Rattle.ix_model.specs.FlatTrees.{FlatTree, flat_text, flat_node, no_flat, flats_and}
+use Rattle.ix_model.specs.FlatTrees.{FlatTree, flat_text, flat_insertion, flat_node, no_flat, flats_and}
 use Rattle.ix_model.specs.Expanded.{line}
 use Rattle.ix_model.specs.ExampleGrammars.{literal}
 use Rattle.ix_model.specs.ExampleTrees.{node_of}
@@ -25,8 +25,12 @@ abbrev pub flat : Kind → List (List Sym) → Flat
 flat kind lines = record { kind = kind; lines = map line lines }
 
 -- rules of a grammar whose only rule is S, without a mark
+abbrev pub rules_with : List Flat → List Terminal → List (List ℕ) → Rules
+rules_with flats terminals inserts = record { names = codes "S" ∷ []; marks = Element ∷ []; flats = flats; terminals = terminals; inserts = inserts }
+
+-- without an insertion
 abbrev pub rules_of : List Flat → List Terminal → Rules
-rules_of flats terminals = record { names = codes "S" ∷ []; marks = Element ∷ []; flats = flats; terminals = terminals; inserts = [] }
+rules_of flats terminals = rules_with flats terminals []
 
 abbrev pub shown : ℕ → Sym
 shown n = sym.Term n true
@@ -46,6 +50,14 @@ only x = flat kind.Named ((x ∷ []) ∷ [])
 -- of S: "a".
 abbrev pub a_rules : Rules
 a_rules = rules_of (only (shown 0) ∷ []) (terminal.Lit (codes "a") ∷ [])
+
+-- of S: +"x".
+abbrev pub insert_rules : Rules
+insert_rules = rules_with (only (sym.Insert 0) ∷ []) [] (codes "x" ∷ [])
+
+-- one terminal, the set of these ranges
+abbrev pub set_of : List CharRange → Rules
+set_of ranges = rules_of [] (terminal.Set ranges ∷ [])
 
 -- "a"?
 abbrev pub a_option : Term
@@ -86,6 +98,10 @@ a_plan s = record { rules = a_rules; slots = slot 0 0 0 ∷ slot 0 0 1 ∷ []; t
 -- the only derivation of `a` under `S: "a".`
 abbrev pub a_flat : FlatTree
 a_flat = flat_node 0 0 (flats_and no_flat (flat_text 0 1))
+
+-- the only derivation of the empty text under `S: +"x".`
+abbrev pub insert_flat : FlatTree
+insert_flat = flat_node 0 0 (flats_and no_flat flat_insertion)
 
 -- `a,a` under `S: "a"**",".`
 abbrev pub two_items : Tree

@@ -55,3 +55,28 @@ impl CharSet {
         }
     }
 }
+
+#[cfg(test)]
+mod tests {
+    use super::*;
+    use std::test::Fail;
+
+    #[test]
+    fn set_holds_its_ranges(rt: HostRuntime) -> Result<(), Fail> {
+        let digits = CharRange { low: 48, high: 57 };
+        let letters = CharRange { low: 97, high: 122 };
+        let set = CharSet::of(Vec::from_slice(rt.alloc(), &[digits, letters])?);
+        for (c, held) in [
+            ('/', false),
+            ('0', true),
+            ('9', true),
+            (':', false),
+            ('a', true),
+            ('z', true),
+            ('{', false),
+        ] {
+            assert_eq!(rt; set.contains(c), held, "at {c}");
+        }
+        Ok(())
+    }
+}

@@ -221,3 +221,6 @@ impl Plan {
         self.rules.marks.as_slice()[rule as usize]
     }
 }
+
+#[cfg(test)]
+mod tests;

@@ -1,15 +1,15 @@
-ghost use Rattle.std.specs.Prelude.{◌≡◌, ◌≢◌, [], ◌∷◌, None, codes};
-ghost use Rattle.ix_model.specs.declared.grammar.Term.{One, Opt};
-ghost use Rattle.ix_model.specs.declared.rules.Kind.TheVariants.{Named, Opt as OfOption, Star as OfStar};
-ghost use Rattle.ix_model.specs.Trees.{text, node, present, absent, no_item, list, one};
-ghost use Rattle.ix_model.specs.FlatTrees.{FlatTree, flat_text, flat_node, no_flat, flats_and, flat_width};
-ghost use Rattle.ix_model.specs.FlatDerives.{FlatDerives, IsFlatDerivation};
-ghost use Rattle.ix_model.specs.Expanded.{Expanded};
+ghost use Rattle.std.specs.Prelude.{◌≡◌, ◌≢◌, [], ◌∷◌, true, false, codes};
+ghost use Rattle.ix_model.specs.declared.grammar.Term.{One};
+ghost use Rattle.ix_model.specs.Trees.{text, present, absent, no_item, list, one};
+ghost use Rattle.ix_model.specs.FlatTrees.{flat_text, flat_node, no_flat, flats_and, flat_width};
+ghost use Rattle.ix_model.specs.FlatDerives.{IsFlatDerivation};
+ghost use Rattle.ix_model.specs.Expanded.{Expanded, HasSet};
+ghost use Rattle.ix_model.specs.ExpansionLaws.{IsPlanOf};
 ghost use Rattle.ix_model.specs.Lift.{lift};
 ghost use Rattle.ix_model.specs.Lower.{lower};
-ghost use Rattle.ix_model.specs.ExampleGrammars.{only_a, of_term, a_or_b};
+ghost use Rattle.ix_model.specs.ExampleGrammars.{only_a, of_term, a_or_b, inserted, digits};
 ghost use Rattle.ix_model.specs.ExampleTrees.{a_tree, node_of};
-ghost use Rattle.ix_model.specs.ExampleRules.{helper, a_rules, a_option, option_rules, group_rules, a_list, list_rules, never_empty, a_plan, a_flat, two_items, first_item, two_items_flat};
+ghost use Rattle.ix_model.specs.ExampleRules.{helper, range, set_of, insert_rules, a_rules, a_option, option_rules, group_rules, a_list, list_rules, never_empty, a_plan, a_flat, two_items, first_item, two_items_flat};
 
 /// `S: "a".` has one numbered rule, and no helper.
 pub fn rules_of_literal()
@@ -29,6 +29,27 @@ pub fn rules_of_group()
     ensures others { ¬ (Expanded (of_term (One a_or_b)) option_rules) }
 {}
 
+/// An insertion is its own symbol, with its characters in the list of insertions.
+pub fn rules_of_insertion()
+    ensures rules { Expanded (of_term (inserted (codes "x"))) insert_rules }
+    ensures others { ¬ (Expanded (of_term (inserted (codes "y"))) insert_rules) }
+{}
+
+/// The ranges of a set hold what its members mean; numbers that are no characters count for nothing.
+pub fn sets_over_characters()
+    ensures digits { HasSet (set_of (range 48 57 ∷ [])) 0 false (digits ∷ []) }
+    ensures one_less { ¬ (HasSet (set_of (range 48 56 ∷ [])) 0 false (digits ∷ [])) }
+    ensures all { HasSet (set_of (range 0 55295 ∷ range 57344 1114111 ∷ [])) 0 true [] }
+    ensures not_all { ¬ (HasSet (set_of (range 1 1114111 ∷ [])) 0 true []) }
+{}
+
+/// A plan of `S: "a".`; a text of anything but characters has none.
+pub fn plan_of_grammar()
+    ensures plan { IsPlanOf only_a (a_plan (codes "a")) }
+    ensures no_character { ¬ (IsPlanOf only_a (a_plan (55296 ∷ []))) }
+    ensures other_grammar { ¬ (IsPlanOf (of_term a_option) (a_plan [])) }
+{}
+
 /// A star becomes nothing, or the list of its items; the list recurses on the left, with its separator.
 pub fn rules_of_list()
     ensures rules { Expanded (of_term a_list) list_rules }
@@ -42,6 +63,7 @@ pub fn flat_literal()
     ensures none { ¬ (IsFlatDerivation (a_plan (codes "b")) a_flat) }
     ensures longer { ¬ (IsFlatDerivation (a_plan (codes "aa")) a_flat) }
     ensures width { flat_width a_flat ≡ 1 }
+    ensures list_width { flat_width two_items_flat ≡ 3 }
 {}
 
 /// The tree of `a` under `S: "a".`, there and back.

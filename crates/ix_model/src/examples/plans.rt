@@ -1,12 +1,13 @@
-ghost use Rattle.std.specs.Prelude.{◌≡◌, ◌≢◌, List, [], ◌∷◌, None, Some, true, false, codes};
+ghost use Rattle.std.specs.Prelude.{◌≡◌, ◌≢◌, [], ◌∷◌, None, Some, true, false, codes};
 ghost use Rattle.ix_model.specs.declared.grammar.Mark.TheVariants.{Element};
 ghost use Rattle.ix_model.specs.declared.rules.Kind.TheVariants.{Named, List as OfItems};
+ghost use Rattle.ix_model.specs.declared.rules.Terminal.TheVariants.{Lit};
 ghost use Rattle.ix_model.specs.Ranges.{IsInRanges, AreApart};
-ghost use Rattle.ix_model.specs.Numbered.{kind_at, syms_at, sym_at, name_at, mark_at};
+ghost use Rattle.ix_model.specs.Numbered.{kind_at, syms_at, sym_at, name_at, mark_at, terminal_at, insert_at};
 ghost use Rattle.ix_model.specs.Numbering.{slot, numbering, is_before};
 ghost use Rattle.ix_model.specs.Slots.{IsSlot, info_at, sym_after};
 ghost use Rattle.ix_model.specs.Planned.{IsThere, AreThere, IsPlanned};
-ghost use Rattle.ix_model.specs.ExampleRules.{rules_of, only, shown, helper, range, a_rules, option_rules, list_rules, a_plan};
+ghost use Rattle.ix_model.specs.ExampleRules.{rules_of, only, shown, helper, range, a_rules, insert_rules, option_rules, list_rules, a_plan};
 
 /// A range has both its ends; ranges of a set have a gap between each two.
 pub fn ranges_with_gaps()
@@ -30,6 +31,9 @@ pub fn numbered_list()
     ensures other { sym_at list_rules 2 1 1 ≢ shown 0 }
     ensures name { name_at list_rules 0 ≡ codes "S" }
     ensures mark { mark_at list_rules 0 ≡ Element }
+    ensures terminal { terminal_at list_rules 1 ≡ Lit (codes ",") }
+    ensures insertion { insert_at insert_rules 0 ≡ codes "x" }
+    ensures other_terminal { terminal_at list_rules 1 ≢ Lit (codes "a") }
 {}
 
 /// `S: "a".` has two slots, before and after its symbol.

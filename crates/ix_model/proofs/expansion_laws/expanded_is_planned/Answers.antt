@@ -1,4 +1,4 @@
-use Rattle.std.proofs.Common.{◌↔◌, ◌≡◌, ◌<◌, ℕ, length, arith, subst, sym}
+use Rattle.std.proofs.Common.{arith}
 use Rattle.ix_model.proofs.Covering.{names_count, marks_count, names_first, only_named, symbols_there}
 use Rattle.ix_model.proofs.expansion_laws.expanded_is_planned.Goals as goal
 
