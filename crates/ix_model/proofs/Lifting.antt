@@ -41,11 +41,6 @@ stands_char [] (suc i) c a e = absurd (cc e)
 stands_char (y ∷ ys) zero c a e = let q : y ≡ c = cc e in subst IsScalar q a.0
 stands_char (y ∷ ys) (suc i) c a e = stands_char ys i c a.1 e
 
--- the first of a list that is not empty
-pub first_of : {A : Type 0} (xs : List A) → 0 < length xs → (x : A) × (slice_get xs 0 ≡ Some x)
-first_of [] h = absurd (omega (arith, h))
-first_of (x ∷ xs) h = (x, refl)
-
 pub lift_count : (rules : Rules) (ds : FlatTrees) → tree_count (lift_all rules ds) ≡ flat_count ds
 lift_count rules no_flat = refl
 lift_count rules (flats_and ds d) = ap (λ (n : ℕ). n + 1) (lift_count rules ds)

@@ -55,6 +55,10 @@ a_rules = rules_of (only (shown 0) ∷ []) (terminal.Lit (codes "a") ∷ [])
 abbrev pub insert_rules : Rules
 insert_rules = rules_with (only (sym.Insert 0) ∷ []) [] (codes "x" ∷ [])
 
+-- of S: "a", +"x".
+abbrev pub ax_rules : Rules
+ax_rules = rules_with (flat kind.Named ((shown 0 ∷ sym.Insert 0 ∷ []) ∷ []) ∷ []) (terminal.Lit (codes "a") ∷ []) (codes "x" ∷ [])
+
 -- one terminal, the set of these ranges
 abbrev pub set_of : List CharRange → Rules
 set_of ranges = rules_of [] (terminal.Set ranges ∷ [])
@@ -92,6 +96,10 @@ never_empty = rules_of (only (helper 1) ∷ flat kind.Star ((helper 2 ∷ []) �
 -- of S: "a". for a text
 abbrev pub a_plan : List ℕ → Parts
 a_plan s = record { rules = a_rules; slots = slot 0 0 0 ∷ slot 0 0 1 ∷ []; text = s }
+
+-- of S: "a", +"x". for the text `a`
+abbrev pub ax_plan : Parts
+ax_plan = record { rules = ax_rules; slots = slot 0 0 0 ∷ slot 0 0 1 ∷ slot 0 0 2 ∷ []; text = codes "a" }
 
 -- ---- trees
 

@@ -5,14 +5,15 @@ use Rattle.ix_model.specs.Bare.{bare_root}
 use Rattle.ix_model.specs.Lift.{lift}
 use Rattle.ix_model.specs.Walk.{walk}
 use Rattle.ix_model.specs.WalkGives.{AreWalks}
-use Rattle.ix_model.proofs.Lifting.{lift_derives, first_of}
+use Rattle.ix_model.proofs.Lifting.{lift_derives}
+use Rattle.ix_model.proofs.Readers.{get_within}
 use Rattle.ix_model.proofs.LowerOfLift.{lower_lift}
 use Rattle.ix_model.proofs.Walking.{derivation_walks}
 use Rattle.ix_model.proofs.expansion_laws.walk_gives_document.Goals as goal
 
 pub returns : goal.returns
 returns c = λ g plan e p h.
-    let rule = first_of g.rules p.first in
+    let rule = get_within g.rules 0 p.first in
     let written = lift_derives g plan.rules plan.slots plan.text p.text p.expanded rule.0 rule.1 e h in
     let same = lower_lift g plan.rules plan.slots plan.text p.text p.expanded rule.0 rule.1 e h in
     let walks = derivation_walks g plan.rules plan.text p.expanded p.unique (lift plan.rules e) written in
