@@ -6,6 +6,7 @@ pub mod Children
 pub mod Choice
 pub mod Complete
 pub mod Decide
+pub mod Firsts
 pub mod Folds
 pub mod Covering
 pub mod Forming
@@ -27,6 +28,8 @@ pub mod Lowering
 pub mod Numbers
 pub mod Once
 pub mod Readers
+pub mod Readings
+pub mod Refusals
 pub mod Rereading
 pub mod Rest
 pub mod Roots

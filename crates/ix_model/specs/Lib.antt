@@ -7,7 +7,10 @@ pub mod Codes
 pub mod ConformanceLaws
 pub mod Depth
 pub mod Derives
+pub mod Dyn
+pub mod Entered
 pub mod ExampleGrammars
+pub mod ExampleReadings
 pub mod ExampleRules
 pub mod ExampleSpellings
 pub mod ExampleTrees
@@ -24,8 +27,11 @@ pub mod Lift
 pub mod Lower
 pub mod Numbered
 pub mod Numbering
+pub mod Offset
 pub mod Order
+pub mod OutcomeLaws
 pub mod Parts
+pub mod Places
 pub mod Plain
 pub mod Planned
 pub mod Ranges
@@ -42,3 +48,4 @@ pub mod WalkGives
 pub mod Words
 pub mod Written
 pub mod Xml
+pub mod XmlNames

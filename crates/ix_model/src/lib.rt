@@ -8,6 +8,7 @@ pub mod examples;
 pub mod expansion_laws;
 mod grammar;
 pub mod laws;
+pub mod outcome_laws;
 mod plan;
 mod rules;
 pub mod spelling_laws;

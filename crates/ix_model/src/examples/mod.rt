@@ -7,6 +7,7 @@ pub mod expansion;
 pub mod order;
 pub mod places;
 pub mod plans;
+pub mod readings;
 pub mod spelling;
 pub mod terminals;
 pub mod walks;
