@@ -35,6 +35,7 @@ pub mod Rest
 pub mod Roots
 pub mod Runs
 pub mod Slots
+pub mod SmallDocuments
 pub mod SmallRules
 pub mod SmallTexts
 pub mod Sound

@@ -9,6 +9,7 @@ pub mod Depth
 pub mod Derives
 pub mod Dyn
 pub mod Entered
+pub mod ExampleGivens
 pub mod ExampleGrammars
 pub mod ExampleReadings
 pub mod ExampleRules

@@ -8,6 +8,7 @@ pub mod order;
 pub mod places;
 pub mod plans;
 pub mod readings;
+pub mod refusals;
 pub mod spelling;
 pub mod terminals;
 pub mod walks;
