@@ -4,6 +4,7 @@ pub mod ByReading
 pub mod CharacterFacts
 pub mod Children
 pub mod Choice
+pub mod Commands
 pub mod Complete
 pub mod Decide
 pub mod Firsts

@@ -4,6 +4,8 @@ pub mod Characters
 pub mod Choice
 pub mod Classes
 pub mod Codes
+pub mod CommandLaws
+pub mod CommandLine
 pub mod ConformanceLaws
 pub mod Depth
 pub mod Derives

@@ -3,6 +3,7 @@
 
 mod char_set;
 pub mod choice_laws;
+pub mod command_laws;
 mod counts;
 pub mod examples;
 pub mod expansion_laws;

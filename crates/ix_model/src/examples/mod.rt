@@ -1,5 +1,6 @@
 //! Worked examples of the definitions, each proved: what holds, and beside it what does not.
 
+pub mod commands;
 pub mod depth;
 pub mod derivations;
 pub mod documents;
