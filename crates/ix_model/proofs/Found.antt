@@ -6,7 +6,7 @@ use mathlib.Core.Logic.{inl, inr}
 use Rattle.ix_model.specs.declared.grammar.Grammar.{Grammar}
 use Rattle.ix_model.specs.declared.grammar.Term.{Term}
 use Rattle.ix_model.specs.declared.grammar.Factor.{Factor}
-use Rattle.ix_model.specs.Trees.{Tree, Trees, Repeated, tree_count, width}
+use Rattle.ix_model.specs.Trees.{Tree, Trees, Repeated, tree_count}
 use Rattle.ix_model.specs.Heights.{height, heights, repeated_height}
 use Rattle.ix_model.specs.Derives.{Derives, DerivesFirst, Repeats}
 use Rattle.ix_model.specs.Order.{Before, AllBefore, RepeatedBefore}
@@ -40,27 +40,29 @@ module _ (X Y : Type 0) (P : X → Type 0) (Q : X → X → Type 0) (R : Y → T
   found_both (inr x) y = inr (λ a b p r. x a p)
   found_both (inl x) (inr y) = inr (λ a b p r. y b r)
 
--- the list and the last tree that end at j are before another list and last tree
-abbrev pub PairBefore : (X : Type 0) → (X → X → ℕ → Type 0) → X → Tree → X → Tree → ℕ → Type 0
-PairBefore X Q ds d es e j = (j - width d < j - width e) ⊎ (width d ≡ width e) × (Q ds es (j - width d) ⊎ (ds ≡ es) × Before d e j)
+-- lists X, trees Y with their widths, and the orders of those that end at one place
+module _ (X Y : Type 0) (wide : Y → ℕ) (Q : X → X → ℕ → Type 0) (R : Y → Y → ℕ → Type 0) where
+  -- a list and a last tree that end at j are before another list and last tree
+  abbrev pub PairBefore : X → Y → X → Y → ℕ → Type 0
+  PairBefore ds d es e j = (j - wide d < j - wide e) ⊎ (wide d ≡ wide e) × (Q ds es (j - wide d) ⊎ (ds ≡ es) × R d e j)
 
--- a list and a last tree are the same as another list and last tree, or before them, where no last tree starts sooner
-pub pair_before : (X : Type 0) (Q : X → X → ℕ → Type 0) (ds es : X) (d e : Tree) (k l j : ℕ) → k + width d ≡ j → l + width e ≡ j → (l < k → ⊥) → (l ≡ k → (es ≡ ds) ⊎ Q ds es k) → (l ≡ k → (e ≡ d) ⊎ Before d e j) →
-    ((es ≡ ds) × (e ≡ d)) ⊎ PairBefore X Q ds d es e j
-pair_before X Q ds es d e k l j wd we least p q = by_start (cases_order l k)
-  where
-    by_start : InSomeOrder l k → ((es ≡ ds) × (e ≡ d)) ⊎ PairBefore X Q ds d es e j
-    by_start (inr (inl h)) = absurd (least h)
-    by_start (inr (inr h)) = inr (inl (omega (arith, wd, we, h)))
-    by_start (inl h) = same (p h) (q h)
-      where
-        w : width d ≡ width e
-        w = omega (arith, wd, we, h)
+  -- they are the same as another list and last tree, or before them, where no other last tree starts sooner
+  pub pair_before : (ds es : X) (d e : Y) (k l j : ℕ) → k + wide d ≡ j → l + wide e ≡ j → (l < k → ⊥) → (l ≡ k → (es ≡ ds) ⊎ Q ds es k) → (l ≡ k → (e ≡ d) ⊎ R d e j) →
+      ((es ≡ ds) × (e ≡ d)) ⊎ PairBefore ds d es e j
+  pair_before ds es d e k l j wd we least p q = by_start (cases_order l k)
+    where
+      by_start : InSomeOrder l k → ((es ≡ ds) × (e ≡ d)) ⊎ PairBefore ds d es e j
+      by_start (inr (inl h)) = absurd (least h)
+      by_start (inr (inr h)) = inr (inl (omega (arith, wd, we, h)))
+      by_start (inl h) = same (p h) (q h)
+        where
+          w : wide d ≡ wide e
+          w = omega (arith, wd, we, h)
 
-        same : (es ≡ ds) ⊎ Q ds es k → (e ≡ d) ⊎ Before d e j → ((es ≡ ds) × (e ≡ d)) ⊎ PairBefore X Q ds d es e j
-        same (inl x) (inl y) = inl (x, y)
-        same (inl x) (inr y) = inr (inr (w, inr (sym x, y)))
-        same (inr x) y = let m : k ≡ j - width d = omega (arith, wd) in inr (inr (w, inl (subst (λ (n : ℕ). Q ds es n) m x)))
+          same : (es ≡ ds) ⊎ Q ds es k → (e ≡ d) ⊎ R d e j → ((es ≡ ds) × (e ≡ d)) ⊎ PairBefore ds d es e j
+          same (inl x) (inl y) = inl (x, y)
+          same (inl x) (inr y) = inr (inr (w, inr (sym x, y)))
+          same (inr x) y = let m : k ≡ j - wide d = omega (arith, wd) in inr (inr (w, inl (subst (λ (n : ℕ). Q ds es n) m x)))
 
 -- ---- trees of height up to b
 

@@ -64,11 +64,11 @@ module _ (g : Grammar) (s : List ℕ) (b : ℕ) where
         others (again es e) ((_, l, a, c), high) =
             let ha : repeated_height es ≤ b = omega (arith, high) in
             let hc : height e ≤ b = omega (arith, high) in
-            ends (pair_before Repeated RepeatedBefore ds es d e k l j (derived_width g s d (One f) k j y.holds.0) (derived_width g s e (One f) l j c) (λ h. less l h es e (a, ha) (c, hc))
+            ends (pair_before Repeated Tree width RepeatedBefore Before ds es d e k l j (derived_width g s d (One f) k j y.holds.0) (derived_width g s e (One f) l j c) (λ h. less l h es e (a, ha) (c, hc))
             (λ h. x.before es (subst (λ (z : ℕ). Repeats g s es f None i z) h a, ha))
             (λ h. y.before e (subst (λ (z : ℕ). Derives g s e (One f) z j) h c, hc)))
           where
-            ends : ((es ≡ ds) × (e ≡ d)) ⊎ PairBefore Repeated RepeatedBefore ds d es e j → (again es e ≡ again ds d) ⊎ RepeatedBefore (again ds d) (again es e) j
+            ends : ((es ≡ ds) × (e ≡ d)) ⊎ PairBefore Repeated Tree width RepeatedBefore Before ds d es e j → (again es e ≡ again ds d) ⊎ RepeatedBefore (again ds d) (again es e) j
             ends (inl (v, w)) = inl (cc (v, w))
             ends (inr h) = inr h
 

@@ -3,7 +3,7 @@ use Rattle.std.proofs.Common.{◌≡◌, refl, sym, subst, ◌⊎◌, ◌≤◌,
 use mathlib.Core.Logic.{inl, inr}
 use Rattle.ix_model.specs.declared.grammar.Grammar.{Grammar}
 use Rattle.ix_model.specs.declared.grammar.Term.{Term}
-use Rattle.ix_model.specs.Trees.{Tree, Trees, no_tree, and, tree_count}
+use Rattle.ix_model.specs.Trees.{Tree, Trees, no_tree, and, tree_count, width}
 use Rattle.ix_model.specs.Heights.{height, heights}
 use Rattle.ix_model.specs.Derives.{Derives, DerivesFirst}
 use Rattle.ix_model.specs.Order.{Before, AllBefore}
@@ -61,11 +61,11 @@ module _ (g : Grammar) (s : List ℕ) (b : ℕ) (terms : List Term) where
             let c' : Derives g s e t l j = subst (λ z. Derives g s e z l j) q c in
             let ha : heights es ≤ b = omega (arith, high) in
             let hc : height e ≤ b = omega (arith, high) in
-            ends (pair_before Trees AllBefore ds es d e k l j (derived_width g s d t k j y.holds.0) (derived_width g s e t l j c') (λ h. less l h es e (a, m, ha) (c', hc))
+            ends (pair_before Trees Tree width AllBefore Before ds es d e k l j (derived_width g s d t k j y.holds.0) (derived_width g s e t l j c') (λ h. less l h es e (a, m, ha) (c', hc))
             (λ h. x.before es (subst (λ (z : ℕ). DerivesFirst g s es terms i z) h a, m, ha))
             (λ h. y.before e (subst (λ (z : ℕ). Derives g s e t z j) h c', hc)))
           where
-            ends : ((es ≡ ds) × (e ≡ d)) ⊎ PairBefore Trees AllBefore ds d es e j → (and es e ≡ and ds d) ⊎ AllBefore (and ds d) (and es e) j
+            ends : ((es ≡ ds) × (e ≡ d)) ⊎ PairBefore Trees Tree width AllBefore Before ds d es e j → (and es e ≡ and ds d) ⊎ AllBefore (and ds d) (and es e) j
             ends (inl (v, w)) = inl (cc (v, w))
             ends (inr h) = inr h
     one_more (inr never) = inr none

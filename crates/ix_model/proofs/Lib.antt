@@ -6,6 +6,7 @@ pub mod Children
 pub mod Choice
 pub mod Commands
 pub mod Complete
+pub mod ChoiceExamples
 pub mod Decide
 pub mod Firsts
 pub mod Folds

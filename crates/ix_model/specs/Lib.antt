@@ -2,6 +2,7 @@ pub mod Bare
 pub mod Breach
 pub mod Characters
 pub mod Choice
+pub mod ChoiceExamples
 pub mod Classes
 pub mod Codes
 pub mod CommandLaws

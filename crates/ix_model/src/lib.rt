@@ -2,6 +2,7 @@
 #![tactic(auto)]
 
 mod char_set;
+pub mod choice_examples;
 pub mod choice_laws;
 pub mod command_laws;
 mod counts;
