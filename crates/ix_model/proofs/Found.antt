@@ -71,9 +71,11 @@ module _ (g : Grammar) (s : List ℕ) (b : ℕ) where
   abbrev pub Within : Term → ℕ → ℕ → Tree → Type 0
   Within t i j d = Derives g s d t i j × (height d ≤ b)
 
+  -- it is the first of these trees
   abbrev pub FirstTree : Term → ℕ → ℕ → Tree → Type 0
   FirstTree t i j d = FirstOf Tree (Within t i j) (λ d e. Before d e j) d
 
+  -- the first is found, or there is none
   abbrev pub FoundTree : Term → ℕ → ℕ → Type 0
   FoundTree t i j = Found Tree (Within t i j) (λ d e. Before d e j)
 
@@ -81,6 +83,7 @@ module _ (g : Grammar) (s : List ℕ) (b : ℕ) where
   abbrev pub AllWithin : List Term → ℕ → ℕ → ℕ → Trees → Type 0
   AllWithin terms n i j ds = DerivesFirst g s ds terms i j × (tree_count ds ≡ n) × (heights ds ≤ b)
 
+  -- the first are found, or there are none
   abbrev pub FoundAll : List Term → ℕ → ℕ → ℕ → Type 0
   FoundAll terms n i j = Found Trees (AllWithin terms n i j) (λ ds es. AllBefore ds es j)
 
@@ -88,5 +91,6 @@ module _ (g : Grammar) (s : List ℕ) (b : ℕ) where
   abbrev pub ListWithin : Factor → Option Factor → ℕ → ℕ → Repeated → Type 0
   ListWithin f sep i j ds = Repeats g s ds f sep i j × (repeated_height ds ≤ b)
 
+  -- the first is found, or there is none
   abbrev pub FoundList : Factor → Option Factor → ℕ → ℕ → Type 0
   FoundList f sep i j = Found Repeated (ListWithin f sep i j) (λ ds es. RepeatedBefore ds es j)
