@@ -19,6 +19,12 @@ pub mod FoundNodes
 pub mod FoundSequences
 pub mod FoundTerms
 pub mod FoundWithin
+pub mod ClosedLinks
+pub mod ClosedTrees
+pub mod FlatWidths
+pub mod Forming
+pub mod Forms
+pub mod Frames
 pub mod Held
 pub mod Inversions
 pub mod LexemeFacts
@@ -29,6 +35,7 @@ pub mod LowerOfLift
 pub mod Lowering
 pub mod Numbers
 pub mod Once
+pub mod Reaching
 pub mod Readers
 pub mod Readings
 pub mod Refusals
@@ -36,6 +43,8 @@ pub mod Rereading
 pub mod Rest
 pub mod Roots
 pub mod Runs
+pub mod SlotPlaces
+pub mod SmallTexts
 pub mod Slots
 pub mod SmallDocuments
 pub mod SmallRules
@@ -46,4 +55,6 @@ pub mod Standing
 pub mod TokenFacts
 pub mod Total
 pub mod Walking
+pub mod TreesClosed
+pub mod TwoTrees
 pub mod Widths

@@ -4,6 +4,8 @@ pub mod Characters
 pub mod Choice
 pub mod ChoiceExamples
 pub mod Classes
+pub mod Closed
+pub mod ClosedLaws
 pub mod Codes
 pub mod CommandLaws
 pub mod CommandLine
@@ -40,13 +42,18 @@ pub mod Plain
 pub mod Planned
 pub mod Ranges
 pub mod Reading
+pub mod Reached
 pub mod Sets
+pub mod SlotPlaces
 pub mod Slots
 pub mod Spacing
 pub mod SpellingLaws
 pub mod Spells
 pub mod Terminals
 pub mod Trees
+pub mod TwoWays
+pub mod Useful
+pub mod UsefulLaws
 pub mod Walk
 pub mod WalkGives
 pub mod Words

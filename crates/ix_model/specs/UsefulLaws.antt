@@ -1,0 +1,60 @@
+-- Laws of useful subtrees: where they stand in the closure, and what they say of the derivations of the text.
+use Rattle.std.specs.Prelude.{◌↔◌, ℕ, length}
+use Rattle.ix_model.specs.declared.grammar.Grammar.{Grammar}
+use Rattle.ix_model.specs.declared.sub.Sub.{Sub}
+use Rattle.ix_model.specs.Parts.{Parts}
+use Rattle.ix_model.specs.Planned.{IsPlanned}
+use Rattle.ix_model.specs.Trees.{Tree}
+use Rattle.ix_model.specs.Derives.{IsDerivation, Ambiguous}
+use Rattle.ix_model.specs.ExpansionLaws.{IsPlanOf}
+use Rattle.ix_model.specs.FlatTrees.{FlatTree}
+use Rattle.ix_model.specs.FlatDerives.{IsFlatDerivation}
+use Rattle.ix_model.specs.SlotPlaces.{IsLast}
+use Rattle.ix_model.specs.Closed.{End, Part}
+use Rattle.ix_model.specs.Useful.{Useful}
+use Rattle.ix_model.specs.Reached.{SubReached}
+use Rattle.ix_model.specs.TwoWays.{HasTwoWays, FlatAmbiguous}
+
+-- each useful subtree is in the closure
+abbrev pub UsefulIsPart : Type 0
+UsefulIsPart = (plan : Parts) (sub : Sub) → IsPlanned plan → Useful plan sub → Part plan sub.slot sub.left sub.pivot sub.right
+
+-- a subtree is useful exactly where it is reached from the root
+abbrev pub UsefulIsReached : Type 0
+UsefulIsReached = (plan : Parts) (sub : Sub) → IsPlanned plan → Useful plan sub ↔ SubReached plan sub.slot sub.left sub.pivot sub.right
+
+-- the text has a derivation over the numbered rules
+abbrev pub HasFlatDerivation : Parts → Type 0
+HasFlatDerivation plan = (d : FlatTree) × IsFlatDerivation plan d
+
+-- the closure has a subtree of the whole first rule over the whole text
+abbrev pub HasRoot : Parts → Type 0
+HasRoot plan = (s : ℕ) × (pivot : ℕ) × IsLast plan s 0 × Part plan s 0 pivot (length plan.text)
+
+-- some subtree is useful
+abbrev pub HasUseful : Parts → Type 0
+HasUseful plan = (sub : Sub) × Useful plan sub
+
+-- a derivation exists exactly where the first rule ends with the text, where its subtree over the text is there, and
+-- where some subtree is useful
+pub record DerivationIsSeen (plan : Parts) : Type 0 where
+  pub end : HasFlatDerivation plan ↔ End plan 0 0 (length plan.text)
+  pub root : HasFlatDerivation plan ↔ HasRoot plan
+  pub useful : HasFlatDerivation plan ↔ HasUseful plan
+
+abbrev pub RootIsThere : Type 0
+RootIsThere = (plan : Parts) → IsPlanned plan → DerivationIsSeen plan
+
+-- two derivations exist exactly where some span has two ways
+abbrev pub TwoWaysAreTwoTrees : Type 0
+TwoWaysAreTwoTrees = (plan : Parts) → IsPlanned plan → HasTwoWays plan ↔ FlatAmbiguous plan
+
+-- under the grammar of the plan the text has a derivation exactly where some subtree is useful
+abbrev pub DerivedIsUseful : Type 0
+DerivedIsUseful =
+    (g : Grammar) (plan : Parts) → IsPlanOf g plan → IsPlanned plan →
+    ((d : Tree) × IsDerivation g plan.text d) ↔ HasUseful plan
+
+-- and it is ambiguous exactly where some span has two ways
+abbrev pub AmbiguousIsTwoWays : Type 0
+AmbiguousIsTwoWays = (g : Grammar) (plan : Parts) → IsPlanOf g plan → IsPlanned plan → Ambiguous g plan.text ↔ HasTwoWays plan

@@ -1,0 +1,38 @@
+//! Laws of the closure and of useful subtrees. Each function's contract is the law; the bodies are empty.
+ghost use Rattle.ix_model.specs.ClosedLaws.{ClosedIsExact};
+ghost use Rattle.ix_model.specs.UsefulLaws.{UsefulIsPart, UsefulIsReached, RootIsThere, TwoWaysAreTwoTrees, DerivedIsUseful, AmbiguousIsTwoWays};
+
+/// A fact is in the closure exactly where its rule is called and trees derive its span.
+pub fn closed_is_exact()
+    ensures { ClosedIsExact }
+{}
+
+/// Each useful subtree is in the closure.
+pub fn useful_is_part()
+    ensures { UsefulIsPart }
+{}
+
+/// A subtree is useful exactly where it is reached from the root.
+pub fn useful_is_reached()
+    ensures { UsefulIsReached }
+{}
+
+/// A derivation exists exactly where the closure has the root.
+pub fn root_is_there()
+    ensures { RootIsThere }
+{}
+
+/// Two derivations exist exactly where some span has two ways.
+pub fn two_ways_are_two_trees()
+    ensures { TwoWaysAreTwoTrees }
+{}
+
+/// The text has a derivation under the grammar exactly where some subtree is useful.
+pub fn derived_is_useful()
+    ensures { DerivedIsUseful }
+{}
+
+/// The text is ambiguous under the grammar exactly where some span has two ways.
+pub fn ambiguous_is_two_ways()
+    ensures { AmbiguousIsTwoWays }
+{}
