@@ -44,7 +44,10 @@ pub mod Rest
 pub mod Roots
 pub mod Runs
 pub mod SlotPlaces
+pub mod SmallClosures
+pub mod SmallPlans
 pub mod SmallTexts
+pub mod SmallUses
 pub mod Slots
 pub mod SmallDocuments
 pub mod SmallRules

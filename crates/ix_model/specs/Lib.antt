@@ -19,6 +19,7 @@ pub mod ExampleGrammars
 pub mod ExampleReadings
 pub mod ExampleRules
 pub mod ExampleSpellings
+pub mod ExamplePlans
 pub mod ExampleTrees
 pub mod Expanded
 pub mod ExpansionLaws

@@ -2,6 +2,7 @@
 
 pub mod commands;
 pub mod depth;
+pub mod closure;
 pub mod derivations;
 pub mod documents;
 pub mod expansion;
@@ -13,3 +14,4 @@ pub mod refusals;
 pub mod spelling;
 pub mod terminals;
 pub mod walks;
+pub mod useful;

@@ -1,0 +1,124 @@
+-- The plans of the worked examples, and what holds of the closures of all such plans.
+use Rattle.std.proofs.Common.{rules, ◌≡◌, refl, ap, sym, subst, ◌∙◌, ◌+◌, ◌≤◌, ℕ, List, length, Some, codes, arith, slice_get}
+use Rattle.ix_model.specs.declared.rules.Sym.{Sym}
+use Rattle.ix_model.specs.declared.rules.Sym.TheVariants as sy
+use Rattle.ix_model.specs.declared.rules.Terminal.{Terminal}
+use Rattle.ix_model.specs.declared.rules.Terminal.TheVariants as terminal
+use Rattle.ix_model.specs.Parts.{Parts}
+use Rattle.ix_model.specs.Planned.{IsPlanned}
+use Rattle.ix_model.specs.Numbered.{syms_at}
+use Rattle.ix_model.specs.Slots.{IsSlot}
+use Rattle.ix_model.specs.Terminals.{StandsAt}
+use Rattle.ix_model.specs.FlatTrees.{FlatTree, flat_text, flat_insertion, flat_node, FlatTrees, no_flat, flats_and, flat_count}
+use Rattle.ix_model.specs.FlatDerives.{FlatDerives, IsTerminal, TerminalMatches}
+use Rattle.ix_model.specs.SlotPlaces.{HasNext}
+use Rattle.ix_model.specs.Closed.{Called, start, by_edge, Desc, waiting, Part, empty, scanned, inserted, joined}
+use Rattle.ix_model.specs.ClosedLaws.{Covers, IsLastFrom}
+use Rattle.ix_model.specs.Useful.{sub_at, Useful}
+use Rattle.ix_model.specs.TwoWays.{HasTwoPivots}
+use Rattle.ix_model.specs.ExamplePlans.{literal, only_a, two_beginnings, two_alternatives, two_halves}
+use Rattle.ix_model.proofs.SlotPlaces.{same_slot}
+use Rattle.ix_model.proofs.Readers.{syms_is}
+use Rattle.ix_model.proofs.ClosedTrees.{desc_trees, part_trees}
+use Rattle.ix_model.proofs.Reaching.{reached_part, useful_reached}
+
+-- ---- they are plans
+
+pub planned_a : IsPlanned (only_a (codes "a"))
+planned_a = search rules
+
+pub planned_b : IsPlanned (only_a (codes "b"))
+planned_b = search rules
+
+pub planned_beginnings : IsPlanned (two_beginnings (codes "a"))
+planned_beginnings = search rules
+
+pub planned_ab : IsPlanned (two_beginnings (codes "ab"))
+planned_ab = search rules
+
+pub planned_alternatives : IsPlanned (two_alternatives (codes "a"))
+planned_alternatives = search rules
+
+pub planned_halves : IsPlanned (two_halves (codes "a"))
+planned_halves = search rules
+
+-- ---- what holds of each plan
+
+-- facts of equal numbers
+pub by_two : (R : ℕ → ℕ → Type 0) (a b c d : ℕ) → a ≡ c → b ≡ d → R c d → R a b
+by_two R a b c d e f h = subst (λ z. R z b) (sym e) (subst (R c) (sym f) h)
+
+pub by_three : (R : ℕ → ℕ → ℕ → Type 0) (a b c d e f : ℕ) → a ≡ d → b ≡ e → c ≡ f → R d e f → R a b c
+by_three R a b c d e f g h i r = subst (λ z. R z b c) (sym g) (by_two (R d) b c e f h i r)
+
+pub by_four : (R : ℕ → ℕ → ℕ → ℕ → Type 0) (a b c d e f g h : ℕ) → a ≡ e → b ≡ f → c ≡ g → d ≡ h → R e f g h → R a b c d
+by_four R a b c d e f g h i j k l r = subst (λ z. R z b c d) (sym i) (by_three (R e) b c d f g h j k l r)
+
+module _ (plan : Parts) where
+  -- what a literal matches
+  pub literal_stands : (n i j : ℕ) (cs : List ℕ) → slice_get plan.rules.terminals n ≡ Some (terminal.Lit cs) → IsTerminal plan (literal n) i j → StandsAt plan.text cs i j
+  literal_stands n i j cs at h =
+      let e : h.2 ≡ terminal.Lit cs = cc (h.3, h.4, at) in
+      subst (λ (z : Terminal). TerminalMatches plan.text z i j) e h.5
+
+  -- a tree of a literal is its text
+  pub literal_derived : (d : FlatTree) (n i j : ℕ) → FlatDerives plan d (literal n) i j → IsTerminal plan (literal n) i j
+  literal_derived (flat_text a b) n i j h = h.2
+  literal_derived flat_insertion n i j h = absurd (cc h.1)
+  literal_derived (flat_node r a ds) n i j h = absurd (cc h.1)
+
+  -- a pivot is at most where its subtree ends
+  pub pivot_within : (s l k r : ℕ) → Part plan s l k r → k ≤ r
+  pivot_within s l k r h = go (part_trees plan s l k r h)
+    where
+      go : (ds : FlatTrees) × Covers plan s ds l r × IsLastFrom plan ds s l k r → k ≤ r
+      go (no_flat, c, t) = omega (arith, c.5, t.0)
+      go (flats_and ds d, c, t) = omega (arith, t)
+
+  pub useful_part : IsPlanned plan → (s l k r : ℕ) → Useful plan (sub_at s l k r) → Part plan s l k r
+  useful_part planned s l k r h = reached_part plan planned s l k r (useful_reached plan planned (sub_at s l k r) h)
+
+  -- a slot with its dot at the beginning has passed no character
+  pub passed_none : (s l p r a : ℕ) → IsSlot plan s r a 0 → Desc plan s l p → l ≡ p
+  passed_none s l p r a at h = go (desc_trees plan s l p h)
+    where
+      go : (ds : FlatTrees) × Covers plan s ds l p → l ≡ p
+      go (no_flat, c) = c.5
+      go (flats_and ds d, c) = absurd (omega (arith, (same_slot plan s c.0 c.1 (flat_count ds + 1) r a 0 c.3 at).2))
+
+  -- the symbol is a literal
+  abbrev pub IsLiteral : Sym → Type 0
+  IsLiteral (sy.Term n shown) = Unit {0}
+  IsLiteral _ = ⊥
+
+  -- each symbol is a literal
+  abbrev AreLiterals : Type 0
+  AreLiterals = (r a n : ℕ) (x : Sym) → slice_get (syms_at plan.rules r a) n ≡ Some x → IsLiteral x
+
+  -- each terminal that matches begins with the text
+  abbrev MatchAtStart : Type 0
+  MatchAtStart = (x : Sym) (i j : ℕ) → IsTerminal plan x i j → i ≡ 0
+
+  pub match_one : length plan.text ≡ 1 → (term : Terminal) (cs : List ℕ) (i j : ℕ) → length cs ≡ 1 → term ≡ terminal.Lit cs → TerminalMatches plan.text term i j → i ≡ 0
+  match_one n term cs i j m e h =
+      let s : StandsAt plan.text cs i j = subst (λ (z : Terminal). TerminalMatches plan.text z i j) e h in
+      omega (arith, s.0, s.1, n, m)
+
+  next_literal : AreLiterals → (s after : ℕ) (x : Sym) → HasNext plan s after x → IsLiteral x
+  next_literal all s after x h = all h.0 h.1 h.2 x (ap (λ (z : List Sym). slice_get z h.2) (syms_is plan.rules h.0 h.1 h.6.0 h.6.1 h.6.2 h.6.3 ∙ h.6.4) ∙ h.7)
+
+  called_at_start : AreLiterals → (r p : ℕ) → Called plan r p → p ≡ 0
+  called_at_start all r p start = refl
+  called_at_start all r p (by_edge rule at slot left (waiting s l k after q mark d h)) = absurd (next_literal all s after (sy.Rule q mark) h)
+
+  pivot_at_start : AreLiterals → MatchAtStart → (s l k r : ℕ) → Part plan s l k r → k ≡ 0
+  pivot_at_start all match s l k r (empty rule at slot c f g) = called_at_start all rule at c
+  pivot_at_start all match s l k r (scanned slot left pivot after right x d h t) = match x pivot right t
+  pivot_at_start all match s l k r (inserted slot left pivot after n d h) = absurd (next_literal all slot after (sy.Insert n) h)
+  pivot_at_start all match s l k r (joined rule pivot slot left right after mark e f h) = absurd (next_literal all slot after (sy.Rule rule mark) h)
+
+  pub one_pivot : IsPlanned plan → AreLiterals → MatchAtStart → HasTwoPivots plan → ⊥
+  one_pivot planned all match h = h.5 (zero_is h.3 h.6 ∙ sym (zero_is h.4 h.7))
+    where
+      zero_is : (k : ℕ) → Useful plan (sub_at h.0 h.1 k h.2) → k ≡ 0
+      zero_is k u = pivot_at_start all match h.0 h.1 k h.2 (useful_part planned h.0 h.1 k h.2 u)
