@@ -21,6 +21,7 @@ pub mod FoundTerms
 pub mod FoundWithin
 pub mod ClosedLinks
 pub mod ClosedTrees
+pub mod ClosedWithin
 pub mod FlatWidths
 pub mod Forming
 pub mod Forms
@@ -48,6 +49,7 @@ pub mod SmallClosures
 pub mod SmallPlans
 pub mod SmallTexts
 pub mod SmallUses
+pub mod SlotReaders
 pub mod Slots
 pub mod SmallDocuments
 pub mod SmallRules

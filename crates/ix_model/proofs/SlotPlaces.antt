@@ -43,8 +43,8 @@ module _ (plan : Parts) where
 
 module _ (plan : Parts) (planned : IsPlanned plan) where
   -- each place of an alternative has a slot
-  pub slot_at : (r a dot : ℕ) (syms : List Sym) → IsLine plan r a syms → dot ≤ length syms → (s : ℕ) × IsSlot plan s r a dot
-  slot_at r a dot syms h o = slot_of plan planned r a dot h.0 h.1 h.2 h.3 (omega (arith, o, ap length h.4))
+  pub slot_for : (r a dot : ℕ) (syms : List Sym) → IsLine plan r a syms → dot ≤ length syms → (s : ℕ) × IsSlot plan s r a dot
+  slot_for r a dot syms h o = slot_of plan planned r a dot h.0 h.1 h.2 h.3 (omega (arith, o, ap length h.4))
 
   -- the slot before a symbol of an alternative
   pub record SlotBefore (after r a dot : ℕ) (x : Sym) : Type 0 where
@@ -54,7 +54,7 @@ module _ (plan : Parts) (planned : IsPlanned plan) where
 
   pub before_of : (after r a dot : ℕ) (syms : List Sym) (x : Sym) → IsLine plan r a syms → IsSlot plan after r a (dot + 1) → slice_get syms dot ≡ Some x → SlotBefore after r a dot x
   before_of after r a dot syms x line at e =
-      let p = slot_at r a dot syms line (omega (arith, slice_get_within syms dot x e)) in
+      let p = slot_for r a dot syms line (omega (arith, slice_get_within syms dot x e)) in
       record { slot = p.0; at = p.1; next = (r, a, dot, syms, p.1, at, line, e) }
 
   -- no slot is next to two

@@ -1,5 +1,5 @@
 -- The plans of the worked examples, and what holds of the closures of all such plans.
-use Rattle.std.proofs.Common.{rules, ◌≡◌, refl, ap, sym, subst, ◌∙◌, ◌+◌, ◌≤◌, ℕ, List, length, Some, codes, arith, slice_get}
+use Rattle.std.proofs.Common.{rules, ◌≡◌, refl, sym, subst, ◌∙◌, ◌+◌, ◌≤◌, ℕ, List, length, Some, codes, arith, slice_get}
 use Rattle.ix_model.specs.declared.rules.Sym.{Sym}
 use Rattle.ix_model.specs.declared.rules.Sym.TheVariants as sy
 use Rattle.ix_model.specs.declared.rules.Terminal.{Terminal}
@@ -18,7 +18,7 @@ use Rattle.ix_model.specs.Useful.{sub_at, Useful}
 use Rattle.ix_model.specs.TwoWays.{HasTwoPivots}
 use Rattle.ix_model.specs.ExamplePlans.{literal, only_a, two_beginnings, two_alternatives, two_halves}
 use Rattle.ix_model.proofs.SlotPlaces.{same_slot}
-use Rattle.ix_model.proofs.Readers.{syms_is}
+use Rattle.ix_model.proofs.SlotReaders.{next_sym}
 use Rattle.ix_model.proofs.ClosedTrees.{desc_trees, part_trees}
 use Rattle.ix_model.proofs.Reaching.{reached_part, useful_reached}
 
@@ -105,7 +105,7 @@ module _ (plan : Parts) where
       omega (arith, s.0, s.1, n, m)
 
   next_literal : AreLiterals → (s after : ℕ) (x : Sym) → HasNext plan s after x → IsLiteral x
-  next_literal all s after x h = all h.0 h.1 h.2 x (ap (λ (z : List Sym). slice_get z h.2) (syms_is plan.rules h.0 h.1 h.6.0 h.6.1 h.6.2 h.6.3 ∙ h.6.4) ∙ h.7)
+  next_literal all s after x h = all h.0 h.1 h.2 x (next_sym plan s after x h)
 
   called_at_start : AreLiterals → (r p : ℕ) → Called plan r p → p ≡ 0
   called_at_start all r p start = refl

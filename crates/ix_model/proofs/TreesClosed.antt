@@ -11,7 +11,7 @@ use Rattle.ix_model.specs.FlatDerives.{FlatDerives, FlatDerivesFirst, IsLine}
 use Rattle.ix_model.specs.SlotPlaces.{HasNext, IsLast}
 use Rattle.ix_model.specs.Closed.{Called, by_edge, Desc, begun, arrived, waiting, End, ended, Part, empty, scanned, inserted, joined}
 use Rattle.ix_model.specs.ClosedLaws.{IsCalledFor, Covers, IsLastFrom}
-use Rattle.ix_model.proofs.SlotPlaces.{same_slot, slot_at, before_of, same_before}
+use Rattle.ix_model.proofs.SlotPlaces.{same_slot, slot_for, before_of, same_before}
 use Rattle.ix_model.proofs.FlatWidths.{width_is}
 
 module _ (plan : Parts) (planned : IsPlanned plan) where
@@ -30,7 +30,7 @@ module _ (plan : Parts) (planned : IsPlanned plan) where
     symbol_closed (flat_node q a ds) s after l k p x d n h =
         let m : HasNext plan s after (sy.Rule q h.0) = subst (λ (z : Sym). HasNext plan s after z) h.1 n in
         let e = waiting s l k after q h.0 d m in
-        let last = slot_at plan planned q a (length h.2) h.2 h.3 (omega arith) in
+        let last = slot_for plan planned q a (length h.2) h.2 h.3 (omega arith) in
         let at : IsSlot plan last.0 q a (flat_count ds) = subst (λ (z : ℕ). IsSlot plan last.0 q a z) (sym h.4) last.1 in
         joined q k s l p after h.0 e (ended last.0 k p q (trees_closed ds last.0 q a h.2 k p h.3 at (by_edge q k s l e) h.5) (a, h.2, last.1, h.3)) m
 
@@ -54,7 +54,7 @@ module _ (plan : Parts) (planned : IsPlanned plan) where
 
   pub node_closed : (q a l p : ℕ) (ds : FlatTrees) (m : Option Mark) → FlatDerives plan (flat_node q a ds) (sy.Rule q m) l p → Called plan q l → Node q a l p ds
   node_closed q a l p ds m h c =
-      let s = slot_at plan planned q a (length h.2) h.2 h.3 (omega arith) in
+      let s = slot_for plan planned q a (length h.2) h.2 h.3 (omega arith) in
       let at : IsSlot plan s.0 q a (flat_count ds) = subst (λ (z : ℕ). IsSlot plan s.0 q a z) (sym h.4) s.1 in
       let k = last_part ds s.0 q a h.2 l p h.3 at h.4 c h.5 in
       record { last = s.0; pivot = k.0; syms = h.2; line = h.3; at = at; is_last = (a, h.2, s.1, h.3); part = k.1; trees = h.5 }

@@ -1,5 +1,6 @@
--- What the facts of the closure say: each is there exactly where a rule is called and trees derive its span.
-use Rattle.std.specs.Prelude.{◌≡◌, ◌⊎◌, ◌↔◌, ℕ, ◌+◌, List, Option, None}
+-- Laws of the closure: a fact is there exactly where its rule is called and trees derive its span, and what its numbers
+-- name is there.
+use Rattle.std.specs.Prelude.{◌≡◌, ◌⊎◌, ◌↔◌, ℕ, ◌+◌, ◌<◌, ◌≤◌, List, length, Option, None}
 use Rattle.ix_model.specs.declared.grammar.Mark.{Mark}
 use Rattle.ix_model.specs.declared.rules.Sym.{Sym}
 use Rattle.ix_model.specs.declared.rules.Sym.TheVariants as sym
@@ -40,3 +41,14 @@ pub record FactsAreTrees (plan : Parts) : Type 0 where
 
 abbrev pub ClosedIsExact : Type 0
 ClosedIsExact = (plan : Parts) → IsPlanned plan → FactsAreTrees plan
+
+-- the rules and slots of all facts are there, and their positions lie in order within the text
+pub record FactsAreWithin (plan : Parts) : Type 0 where
+  pub called : (q p : ℕ) → Called plan q p → (q < length plan.rules.flats) × (p ≤ length plan.text)
+  pub edges : (q p s l : ℕ) → Edge plan q p s l → (q < length plan.rules.flats) × (s < length plan.slots) × (l ≤ p) × (p ≤ length plan.text)
+  pub descs : (s l p : ℕ) → Desc plan s l p → (s < length plan.slots) × (l ≤ p) × (p ≤ length plan.text)
+  pub ends : (q l e : ℕ) → End plan q l e → (q < length plan.rules.flats) × (l ≤ e) × (e ≤ length plan.text)
+  pub parts : (s l k r : ℕ) → Part plan s l k r → (s < length plan.slots) × (l ≤ k) × (k ≤ r) × (r ≤ length plan.text)
+
+abbrev pub ClosedIsWithin : Type 0
+ClosedIsWithin = (plan : Parts) → IsPlanned plan → FactsAreWithin plan

@@ -45,6 +45,7 @@ pub mod Ranges
 pub mod Reading
 pub mod Reached
 pub mod Sets
+pub mod SlotLaws
 pub mod SlotPlaces
 pub mod Slots
 pub mod Spacing

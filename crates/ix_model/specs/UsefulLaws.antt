@@ -1,19 +1,24 @@
 -- Laws of useful subtrees: where they stand in the closure, and what they say of the derivations of the text.
-use Rattle.std.specs.Prelude.{◌↔◌, ℕ, length}
+use Rattle.std.specs.Prelude.{◌≡◌, ◌↔◌, ℕ, ◌+◌, length}
 use Rattle.ix_model.specs.declared.grammar.Grammar.{Grammar}
+use Rattle.ix_model.specs.declared.rules.Sym.{Sym}
 use Rattle.ix_model.specs.declared.sub.Sub.{Sub}
 use Rattle.ix_model.specs.Parts.{Parts}
 use Rattle.ix_model.specs.Planned.{IsPlanned}
 use Rattle.ix_model.specs.Trees.{Tree}
 use Rattle.ix_model.specs.Derives.{IsDerivation, Ambiguous}
 use Rattle.ix_model.specs.ExpansionLaws.{IsPlanOf}
-use Rattle.ix_model.specs.FlatTrees.{FlatTree}
-use Rattle.ix_model.specs.FlatDerives.{IsFlatDerivation}
+use Rattle.ix_model.specs.FlatTrees.{FlatTree, flat_width}
+use Rattle.ix_model.specs.FlatDerives.{FlatDerives, IsFlatDerivation}
 use Rattle.ix_model.specs.SlotPlaces.{IsLast}
 use Rattle.ix_model.specs.Closed.{End, Part}
 use Rattle.ix_model.specs.Useful.{Useful}
 use Rattle.ix_model.specs.Reached.{SubReached}
 use Rattle.ix_model.specs.TwoWays.{HasTwoWays, FlatAmbiguous}
+
+-- a tree over the numbered rules is as wide as each span that it derives
+abbrev pub FlatWidthIsSpan : Type 0
+FlatWidthIsSpan = (plan : Parts) (d : FlatTree) (x : Sym) (i j : ℕ) → FlatDerives plan d x i j → i + flat_width d ≡ j
 
 -- each useful subtree is in the closure
 abbrev pub UsefulIsPart : Type 0

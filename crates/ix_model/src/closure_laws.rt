@@ -1,10 +1,26 @@
-//! Laws of the closure and of useful subtrees. Each function's contract is the law; the bodies are empty.
-ghost use Rattle.ix_model.specs.ClosedLaws.{ClosedIsExact};
-ghost use Rattle.ix_model.specs.UsefulLaws.{UsefulIsPart, UsefulIsReached, RootIsThere, TwoWaysAreTwoTrees, DerivedIsUseful, AmbiguousIsTwoWays};
+//! Laws of slots, of the closure and of useful subtrees. Each function's contract is the law; the bodies are empty.
+ghost use Rattle.ix_model.specs.ClosedLaws.{ClosedIsExact, ClosedIsWithin};
+ghost use Rattle.ix_model.specs.SlotLaws.{SlotsTellTheDot};
+ghost use Rattle.ix_model.specs.UsefulLaws.{FlatWidthIsSpan, UsefulIsPart, UsefulIsReached, RootIsThere, TwoWaysAreTwoTrees, DerivedIsUseful, AmbiguousIsTwoWays};
+
+/// The readers of a plan tell where a slot's dot stands.
+pub fn slots_tell_the_dot()
+    ensures { SlotsTellTheDot }
+{}
 
 /// A fact is in the closure exactly where its rule is called and trees derive its span.
 pub fn closed_is_exact()
     ensures { ClosedIsExact }
+{}
+
+/// The rules, slots and positions of all facts of the closure are there.
+pub fn closed_is_within()
+    ensures { ClosedIsWithin }
+{}
+
+/// A tree over the numbered rules is as wide as each span that it derives.
+pub fn flat_width_is_span()
+    ensures { FlatWidthIsSpan }
 {}
 
 /// Each useful subtree is in the closure.
