@@ -28,6 +28,7 @@ pub mod Forms
 pub mod Frames
 pub mod Held
 pub mod Inversions
+pub mod Judging
 pub mod LexemeFacts
 pub mod LiftOfLower
 pub mod Lifting
@@ -57,6 +58,7 @@ pub mod SmallTexts
 pub mod Sound
 pub mod SpacingFacts
 pub mod Standing
+pub mod SpelledNumbers
 pub mod TokenFacts
 pub mod Total
 pub mod Walking

@@ -7,6 +7,7 @@ pub mod choice_laws;
 pub mod command_laws;
 pub mod closure_laws;
 mod counts;
+pub mod conformance_laws;
 pub mod examples;
 pub mod expansion_laws;
 mod grammar;
