@@ -92,7 +92,8 @@ same_text (x ∷ xs) (y ∷ ys) = by_both (same_number x y) (same_text xs ys)
 
 -- ---- classes
 
-abbrev categories : List GeneralCategory
+-- all categories
+abbrev pub categories : List GeneralCategory
 categories =
     category.UppercaseLetter ∷ category.LowercaseLetter ∷ category.TitlecaseLetter ∷ category.ModifierLetter ∷ category.OtherLetter
     ∷ category.NonspacingMark ∷ category.SpacingMark ∷ category.EnclosingMark ∷ category.DecimalNumber ∷ category.LetterNumber
@@ -174,15 +175,20 @@ some_passes test (c ∷ cs) h =
       | false ↦ λ _ k. some_passes test cs k
     ] refl h
 
-is_known : (name : List ℕ) → IsKnownClass name ⊎ ¬ (IsKnownClass name)
-is_known name = go (holds (list_any test categories))
-  where
-    test : GeneralCategory → Bool
-    test c = is_code_in_class name (code_of c)
+-- whether a category has the class
+abbrev pub has_class : List ℕ → GeneralCategory → Bool
+has_class name c = is_code_in_class name (code_of c)
 
-    go : (list_any test categories ≡ true) ⊎ ¬ (list_any test categories ≡ true) → IsKnownClass name ⊎ ¬ (IsKnownClass name)
-    go (inl h) = inl (some_passes test categories h)
-    go (inr n) = inr (λ k. n (list_any_at test categories (number_of k.0) k.0 (stands_there k.0).0 (ap test (stands_there k.0).1 ∙ k.1)))
+-- a class that none of the categories has is not known
+pub unknown : (name : List ℕ) → ¬ (list_any (has_class name) categories ≡ true) → ¬ (IsKnownClass name)
+unknown name none (c, h) = none (list_any_at (has_class name) categories (number_of c) c (stands_there c).0 (ap (has_class name) (stands_there c).1 ∙ h))
+
+is_known : (name : List ℕ) → IsKnownClass name ⊎ ¬ (IsKnownClass name)
+is_known name = go (holds (list_any (has_class name) categories))
+  where
+    go : (list_any (has_class name) categories ≡ true) ⊎ ¬ (list_any (has_class name) categories ≡ true) → IsKnownClass name ⊎ ¬ (IsKnownClass name)
+    go (inl h) = inl (some_passes (has_class name) categories h)
+    go (inr none) = inr (unknown name none)
 
 -- ---- names
 
@@ -197,7 +203,7 @@ is_named g r name = go (slice_get g.rules r) refl
         by_name (inl p) = inl (rule, e, p)
         by_name (inr n) = inr (λ h. let q : Some rule ≡ Some h.0 = sym e ∙ h.1 in let d : rule ≡ h.0 = cc q in n (ap (λ (x : Rule). x.name) d ∙ h.2))
 
-named_below : (g : Grammar) (r : ℕ) (name : List ℕ) → IsNamed g r name → r < length g.rules
+pub named_below : (g : Grammar) (r : ℕ) (name : List ℕ) → IsNamed g r name → r < length g.rules
 named_below g r name h = slice_get_within g.rules r h.0 h.1
 
 is_defined : (g : Grammar) (name : List ℕ) → IsDefined g name ⊎ ¬ (IsDefined g name)
@@ -227,17 +233,21 @@ repeats g r = go (slice_get g.rules r) refl
 one_of_three : (r q : ℕ) → (r ≡ q) ⊎ ((r < q) ⊎ (q < r))
 one_of_three r q = grind arith
 
+-- where no rule has the name of an earlier one, names are unique
+pub unique_where_none_repeats : (g : Grammar) → ((q : ℕ) → q < length g.rules → ¬ (Repeats g q)) → HasUniqueNames g
+unique_where_none_repeats g none r q name a b = by_place (one_of_three r q)
+  where
+    by_place : (r ≡ q) ⊎ ((r < q) ⊎ (q < r)) → r ≡ q
+    by_place (inl e) = e
+    by_place (inr (inl l)) = absurd (none q (named_below g q name b) (name, (b, r, l, a)))
+    by_place (inr (inr l)) = absurd (none r (named_below g r name a) (name, (a, q, l, b)))
+
 find_repeated : (g : Grammar) → HasUniqueNames g ⊎ ((name : List ℕ) × Breach g (duplicate name))
 find_repeated g = go (find_least (Repeats g) (repeats g) (length g.rules))
   where
     go : Least (Repeats g) (length g.rules) ⊎ ((q : ℕ) → q < length g.rules → ¬ (Repeats g q)) → HasUniqueNames g ⊎ ((name : List ℕ) × Breach g (duplicate name))
     go (inl (r, h, (name, k), none)) = inr (name, (r, k, λ p other l m. none p l (other, m)))
-    go (inr none) = inl (λ r q name a b. by_place r q name a b (one_of_three r q))
-      where
-        by_place : (r q : ℕ) (name : List ℕ) → IsNamed g r name → IsNamed g q name → (r ≡ q) ⊎ ((r < q) ⊎ (q < r)) → r ≡ q
-        by_place r q name a b (inl e) = e
-        by_place r q name a b (inr (inl l)) = absurd (none q (named_below g q name b) (name, (b, r, l, a)))
-        by_place r q name a b (inr (inr l)) = absurd (none r (named_below g r name a) (name, (a, q, l, b)))
+    go (inr none) = inl (unique_where_none_repeats g none)
 
 no_repeated : (g : Grammar) (name : List ℕ) → HasUniqueNames g → ¬ (Breach g (duplicate name))
 no_repeated g name unique (r, (here, q, l, there), none) = omega (arith, l, unique r q name here there)
@@ -260,29 +270,29 @@ find_version g = go g.version refl
 
 -- ---- the least code
 
-above_version : (g : Grammar) → IsOne g → (fault : Fault) → Breach g fault → 3 ≤ code_number fault
+pub above_version : (g : Grammar) → IsOne g → (fault : Fault) → Breach g fault → 3 ≤ code_number fault
 above_version g v (version text) b = absurd (b.1 (v text b.0))
 above_version g v _ b = omega arith
 
-above_codes : (g : Grammar) → IsOne g → AllByRecursion IsCodePoint (codes_of g) → (fault : Fault) → Breach g fault → 4 ≤ code_number fault
+pub above_codes : (g : Grammar) → IsOne g → AllByRecursion IsCodePoint (codes_of g) → (fault : Fault) → Breach g fault → 4 ≤ code_number fault
 above_codes g v p (version text) b = absurd (b.1 (v text b.0))
 above_codes g v p (code_point digits) b = absurd (no_first IsCodePoint (codes_of g) digits p b)
 above_codes g v p _ b = omega arith
 
-above_ranges : (g : Grammar) → IsOne g → AllByRecursion IsCodePoint (codes_of g) → AllByRecursion IsRising (ranges_of g) → (fault : Fault) → Breach g fault → 5 ≤ code_number fault
+pub above_ranges : (g : Grammar) → IsOne g → AllByRecursion IsCodePoint (codes_of g) → AllByRecursion IsRising (ranges_of g) → (fault : Fault) → Breach g fault → 5 ≤ code_number fault
 above_ranges g v p q (version text) b = absurd (b.1 (v text b.0))
 above_ranges g v p q (code_point digits) b = absurd (no_first IsCodePoint (codes_of g) digits p b)
 above_ranges g v p q (range low high) b = absurd (no_first IsRising (ranges_of g) (low, high) q b)
 above_ranges g v p q _ b = omega arith
 
-above_classes : (g : Grammar) → IsOne g → AllByRecursion IsCodePoint (codes_of g) → AllByRecursion IsRising (ranges_of g) → AllByRecursion IsKnownClass (classes_of g) → (fault : Fault) → Breach g fault → 6 ≤ code_number fault
+pub above_classes : (g : Grammar) → IsOne g → AllByRecursion IsCodePoint (codes_of g) → AllByRecursion IsRising (ranges_of g) → AllByRecursion IsKnownClass (classes_of g) → (fault : Fault) → Breach g fault → 6 ≤ code_number fault
 above_classes g v p q k (version text) b = absurd (b.1 (v text b.0))
 above_classes g v p q k (code_point digits) b = absurd (no_first IsCodePoint (codes_of g) digits p b)
 above_classes g v p q k (range low high) b = absurd (no_first IsRising (ranges_of g) (low, high) q b)
 above_classes g v p q k (class name) b = absurd (no_first IsKnownClass (classes_of g) name k b)
 above_classes g v p q k _ b = omega arith
 
-above_calls : (g : Grammar) → IsOne g → AllByRecursion IsCodePoint (codes_of g) → AllByRecursion IsRising (ranges_of g) → AllByRecursion IsKnownClass (classes_of g) → AllByRecursion (IsDefined g) (calls_of g) → (fault : Fault) → Breach g fault → 7 ≤ code_number fault
+pub above_calls : (g : Grammar) → IsOne g → AllByRecursion IsCodePoint (codes_of g) → AllByRecursion IsRising (ranges_of g) → AllByRecursion IsKnownClass (classes_of g) → AllByRecursion (IsDefined g) (calls_of g) → (fault : Fault) → Breach g fault → 7 ≤ code_number fault
 above_calls g v p q k d (undefined name) b = absurd (no_first (IsDefined g) (calls_of g) name d b)
 above_calls g v p q k d (duplicate name) b = omega arith
 above_calls g v p q k d fault b = absurd (omega (arith, above_classes g v p q k fault b))

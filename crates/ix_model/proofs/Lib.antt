@@ -54,6 +54,7 @@ pub mod SlotReaders
 pub mod Slots
 pub mod SmallDocuments
 pub mod SmallRules
+pub mod SmallGrammars
 pub mod SmallTexts
 pub mod Sound
 pub mod SpacingFacts

@@ -90,3 +90,28 @@ last_rule_wrong = grammar (rule (codes "S") (alternative (One (from_to 122 97) �
 -- a grammar without a rule
 abbrev pub no_rule : Grammar
 no_rule = grammar []
+
+-- S: (["b"-"a"])**["d"-"c"].
+abbrev pub two_falling : Grammar
+two_falling = of_term (Star (in_parentheses (One (from_to 98 97))) (Some (from_to 100 99)))
+
+-- S: [#D800-#110000].
+abbrev pub no_characters : Grammar
+no_characters = of_term (One (set_of (member.Range (bound.Code (codes "D800")) (bound.Code (codes "110000")))))
+
+-- S: [name].   for one class
+abbrev pub of_class : List ℕ → Grammar
+of_class name = of_term (One (set_of (member.Class name)))
+
+-- S: t, b.   for one term t
+abbrev pub and_undefined : Term → Grammar
+and_undefined t = grammar (rule (codes "S") (alternative (t ∷ call (codes "b") ∷ []) ∷ []) ∷ [])
+
+-- S: "a". b: "c". c: "d". b: "e". S: "f".
+abbrev pub two_repeated : Grammar
+two_repeated = grammar (
+    rule (codes "S") (alternative (quoted (codes "a") ∷ []) ∷ [])
+    ∷ rule (codes "b") (alternative (quoted (codes "c") ∷ []) ∷ [])
+    ∷ rule (codes "c") (alternative (quoted (codes "d") ∷ []) ∷ [])
+    ∷ rule (codes "b") (alternative (quoted (codes "e") ∷ []) ∷ [])
+    ∷ rule (codes "S") (alternative (quoted (codes "f") ∷ []) ∷ []) ∷ [])

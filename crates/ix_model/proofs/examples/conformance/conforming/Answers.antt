@@ -1,0 +1,27 @@
+use Rattle.std.proofs.Common.{◌≡◌, ap, sym, ◌∙◌, refl, get_or, ℕ, List, [], ◌∷◌, codes, None, arith}
+use Rattle.std.specs.List.{AllByRecursion}
+use Rattle.ix_model.specs.Spells.{IsHex}
+use Rattle.ix_model.specs.declared.grammar.Term.{One}
+use Rattle.ix_model.specs.Breach.{Fault, version, code_point, range, class, undefined, duplicate, IsCodePoint, IsRising, IsKnownClass, IsDefined, Breach, LeastBreach, Conforming}
+use Rattle.ix_model.specs.Factors.{codes_of, ranges_of, classes_of, calls_of}
+use Rattle.ix_model.specs.ExampleGrammars.{quoted, call, of_term, same_names, only_a, hidden}
+use Rattle.ix_model.specs.ExampleSpellings.{numbered, from_to, of_version, last_rule_wrong, two_falling, no_characters, of_class, and_undefined, two_repeated, in_order}
+use Rattle.ix_model.proofs.Folds.{the_folds}
+use Rattle.ix_model.proofs.Judging.{no_first, first_once, unknown, unrefused, above_version, above_codes, above_ranges, above_classes, above_calls}
+use Rattle.ix_model.proofs.SmallGrammars.{no_version, not_defined, unique, none_repeated}
+use Rattle.ix_model.proofs.examples.conformance.conforming.Goals as goal
+
+pub returns-clause-one_rule : goal.returns-clause-one_rule
+returns-clause-one_rule c = record { has_rule = omega arith; numbers = simp the_folds tt; no_breach = unrefused only_a (record { version = no_version only_a refl; code_points = simp the_folds tt; ranges = simp the_folds tt; classes = simp the_folds tt; calls = simp the_folds tt; names = unique only_a refl }) }
+
+pub returns-clause-four_rules : goal.returns-clause-four_rules
+returns-clause-four_rules c = record { has_rule = omega arith; numbers = simp the_folds tt; no_breach = unrefused hidden (record { version = no_version hidden refl; code_points = simp the_folds tt; ranges = simp the_folds tt; classes = simp the_folds tt; calls = simp the_folds ((1, (_, refl, refl)), ((2, (_, refl, refl)), ((3, (_, refl, refl)), tt))); names = unique hidden refl }) }
+
+pub returns-clause-no_digit : goal.returns-clause-no_digit
+returns-clause-no_digit c = λ h. let p : AllByRecursion IsHex ([] ∷ []) = simp the_folds at h.numbers in p.0.0 refl
+
+pub returns-clause-no_hexadecimal : goal.returns-clause-no_hexadecimal
+returns-clause-no_hexadecimal c = λ h. let p : AllByRecursion IsHex (codes "4g" ∷ []) = simp the_folds at h.numbers in cc p.0.1.1.0
+
+pub returns-clause-undefined : goal.returns-clause-undefined
+returns-clause-undefined c = λ h. h.no_breach (undefined (codes "b")) ([], codes "c" ∷ codes "e" ∷ [], simp the_folds refl, tt, not_defined in_order (codes "b") refl)

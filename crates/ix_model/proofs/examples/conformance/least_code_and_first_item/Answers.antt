@@ -1,0 +1,37 @@
+use Rattle.std.proofs.Common.{◌≡◌, ap, sym, ◌∙◌, refl, get_or, ℕ, List, [], ◌∷◌, codes, None, ◌≤◌, arith}
+use Rattle.ix_model.specs.declared.grammar.Term.{One}
+use Rattle.ix_model.specs.Breach.{Fault, version, code_point, range, class, undefined, duplicate, IsCodePoint, IsRising, IsKnownClass, IsDefined, Breach, LeastBreach}
+use Rattle.ix_model.specs.Factors.{codes_of, ranges_of, classes_of, calls_of}
+use Rattle.ix_model.specs.ExampleGrammars.{quoted, call, of_term, same_names}
+use Rattle.ix_model.specs.ExampleSpellings.{numbered, from_to, of_version, last_rule_wrong, two_falling, no_characters, of_class, and_undefined, two_repeated}
+use Rattle.ix_model.proofs.Folds.{the_folds}
+use Rattle.ix_model.proofs.Judging.{item_once, no_first, first_once, unknown, unrefused, above_version, above_codes, above_ranges, above_classes, above_calls}
+use Rattle.ix_model.proofs.SmallGrammars.{no_version, not_defined, unique, none_repeated}
+use Rattle.ix_model.proofs.examples.conformance.least_code_and_first_item.Goals as goal
+
+pub returns-clause-last_rule : goal.returns-clause-last_rule
+returns-clause-last_rule c = (([], [], simp the_folds refl, tt, λ e. cc e), above_version last_rule_wrong (no_version last_rule_wrong refl))
+
+pub returns-clause-not_first_rule : goal.returns-clause-not_first_rule
+returns-clause-not_first_rule c = λ h. let p : 4 ≤ 3 = h.1 (code_point (codes "D800")) ([], [], simp the_folds refl, tt, λ e. cc e) in omega (arith, p)
+
+pub returns-clause-item_first : goal.returns-clause-item_first
+returns-clause-item_first c = (([], (100, 99) ∷ [], simp the_folds refl, tt, λ l. omega (arith, l)), above_codes two_falling (no_version two_falling refl) (simp the_folds tt))
+
+pub returns-clause-not_separator : goal.returns-clause-not_separator
+returns-clause-not_separator c = λ h. let p : (98, 97) ≡ (100, 99) = first_once IsRising (ranges_of two_falling) (98, 97) (100, 99) ([], (100, 99) ∷ [], simp the_folds refl, tt, λ l. omega (arith, l)) h in omega (arith, ap (λ (x : ℕ × ℕ). x.0) p)
+
+pub returns-clause-low_first : goal.returns-clause-low_first
+returns-clause-low_first c = (([], codes "110000" ∷ [], simp the_folds refl, tt, λ e. cc e), above_version no_characters (no_version no_characters refl))
+
+pub returns-clause-not_high : goal.returns-clause-not_high
+returns-clause-not_high c = λ h. let p : codes "D800" ≡ codes "110000" = first_once IsCodePoint (codes_of no_characters) (codes "D800") (codes "110000") ([], codes "110000" ∷ [], simp the_folds refl, tt, λ e. cc e) h in omega (arith, ap (λ (x : List ℕ). get_or x 0 0) p)
+
+pub returns-clause-repeated_first : goal.returns-clause-repeated_first
+returns-clause-repeated_first c = ((3, ((_, refl, refl), 1, omega arith, (_, refl, refl)), none_repeated two_repeated 3 refl), above_calls two_repeated (no_version two_repeated refl) (simp the_folds tt) (simp the_folds tt) (simp the_folds tt) (simp the_folds tt))
+
+pub returns-clause-not_first_pair : goal.returns-clause-not_first_pair
+returns-clause-not_first_pair c = λ h. 
+    let p : duplicate (codes "b") ≡ duplicate (codes "S") = item_once two_repeated (duplicate (codes "b")) (duplicate (codes "S")) (3, ((_, refl, refl), 1, omega arith, (_, refl, refl)), none_repeated two_repeated 3 refl) h refl in
+    let q : codes "b" ≡ codes "S" = cc p in
+    omega (arith, ap (λ (x : List ℕ). get_or x 0 0) q)
