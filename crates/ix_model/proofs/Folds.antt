@@ -1,12 +1,12 @@
 -- What a fold of the grammar gives at each form of factor and term.
-use Rattle.std.proofs.Common.{◌≡◌, refl, ap, sym, ◌∙◌, ℕ, List, Option, Some, None, map}
+use Rattle.std.proofs.Common.{◌≡◌, ap, sym, ◌∙◌, ℕ, List, Option, Some, None, map}
 use Rattle.std.specs.Prelude.{Bool, option_map}
 use Rattle.ix_model.specs.declared.grammar.Mark.{Mark}
 use Rattle.ix_model.specs.declared.grammar.TMark.{TMark}
 use Rattle.ix_model.specs.declared.grammar.Chars.{Chars}
 use Rattle.ix_model.specs.declared.grammar.Member.{Member}
 use Rattle.ix_model.specs.declared.grammar.Alt.{Alt}
-use Rattle.ix_model.specs.declared.grammar.Term.{Term, One, Opt, Star, Plus}
+use Rattle.ix_model.specs.declared.grammar.Term.{One, Opt, Star, Plus}
 use Rattle.ix_model.specs.declared.grammar.Term.TheVariants as tv
 use Rattle.ix_model.specs.declared.grammar.Factor.{Factor, Lit, Set, Call, Insert, Group}
 use Rattle.ix_model.specs.declared.grammar.Factor.TheVariants as fv

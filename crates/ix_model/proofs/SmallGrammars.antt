@@ -1,5 +1,5 @@
 -- Facts about small grammars that come down to one computation.
-use Rattle.std.proofs.Common.{◌≡◌, ◌≢◌, refl, ap, sym, ◌∙◌, ℕ, zero, suc, ◌<◌, List, [], ◌∷◌, length, map, take, Option, Some, None, codes, arith}
+use Rattle.std.proofs.Common.{◌≡◌, ◌≢◌, refl, ap, sym, ◌∙◌, ℕ, zero, suc, ◌<◌, List, [], ◌∷◌, length, take, Some, None, codes, arith}
 use Rattle.std.specs.Prelude.{Bool, true, false, not, ◌&&◌, ◌||◌, slice_get}
 use Rattle.std.specs.List.{list_any}
 use Rattle.std.specs.Str.{bytes_eq}
@@ -7,9 +7,8 @@ use Rattle.std.proofs.lemmas.Slice.Eq.{bytes_eq-Decides}
 use Rattle.ix_model.specs.declared.grammar.Grammar.{Grammar}
 use Rattle.ix_model.specs.declared.grammar.Rule.{Rule}
 use Rattle.ix_model.specs.Laws.{HasUniqueNames}
-use Rattle.ix_model.specs.Written.{IsNamed}
 use Rattle.ix_model.specs.Breach.{IsDefined, IsRepeated}
-use Rattle.ix_model.proofs.Judging.{named_below, unique_where_none_repeats}
+use Rattle.ix_model.proofs.Judging.{unique_where_none_repeats}
 use Rattle.ix_model.proofs.CharacterFacts.{both}
 use Rattle.ix_model.proofs.LexemeFacts.{not_false}
 

@@ -1,5 +1,5 @@
 -- What characters spell has a rule, and its numbers are written in hexadecimal digits.
-use Rattle.std.proofs.Common.{◌≡◌, refl, ap, sym, subst, ℕ, ◌<◌, List, [], ◌∷◌, ◌++◌, length, map, Option, Some, None, arith}
+use Rattle.std.proofs.Common.{sym, subst, ℕ, ◌<◌, List, [], ◌∷◌, ◌++◌, length, map, Some, None, arith}
 use Rattle.std.specs.Prelude.{Bool}
 use Rattle.std.specs.List.{AllByRecursion, flat_map}
 use Rattle.ix_model.specs.declared.grammar.Grammar.{Grammar}
@@ -8,11 +8,11 @@ use Rattle.ix_model.specs.declared.grammar.Chars.{Chars}
 use Rattle.ix_model.specs.declared.grammar.Member.{Member}
 use Rattle.ix_model.specs.declared.grammar.Bound.{Bound}
 use Rattle.ix_model.specs.declared.grammar.Alt.{Alt}
-use Rattle.ix_model.specs.declared.grammar.Term.{Term, One, Opt, Star, Plus}
-use Rattle.ix_model.specs.declared.grammar.Factor.{Factor, Lit, Set, Call, Insert, Group}
+use Rattle.ix_model.specs.declared.grammar.Term.{Term}
+use Rattle.ix_model.specs.declared.grammar.Factor.{Factor, Group}
 use Rattle.ix_model.specs.Spells as Sp
 use Rattle.ix_model.specs.Spells.{IsHex, CharsAt, BoundAt, MemberAt, MembersAt, SetAt, AltsAt, AltAt, TermsAt, TermAt, FactorAt, RuleAt, RulesAt, Spells}
-use Rattle.ix_model.specs.Factors.{joined, of_separator, factor_step, term_step, alt_step, factors_of_factor, factors_of_term, factors_of_alt, codes_of_chars, codes_of_bound, codes_of_member, codes_of_factor, codes_of}
+use Rattle.ix_model.specs.Factors.{joined, factor_step, term_step, alt_step, factors_of_factor, factors_of_term, factors_of_alt, codes_of_chars, codes_of_bound, codes_of_member, codes_of_factor, codes_of}
 use Rattle.ix_model.proofs.Folds.{fold_lit, fold_set, fold_call, fold_insert, fold_group, fold_one, fold_opt, fold_star, fold_plus, fold_alt}
 
 -- ---- lists of which something holds of each

@@ -1,7 +1,6 @@
 -- Grammars as characters and as values, and small grammars that do not conform: what the worked examples speak of.
-use Rattle.std.specs.Prelude.{ℕ, List, [], ◌∷◌, ◌++◌, Some, None, true, false, codes}
+use Rattle.std.specs.Prelude.{ℕ, List, [], ◌∷◌, Some, None, true, false, codes}
 use Rattle.ix_model.specs.declared.grammar.Grammar.{Grammar}
-use Rattle.ix_model.specs.declared.grammar.Rule.{Rule}
 use Rattle.ix_model.specs.declared.grammar.Mark.TheVariants.{Attribute, Hidden}
 use Rattle.ix_model.specs.declared.grammar.TMark.TheVariants.{Shown, Deleted}
 use Rattle.ix_model.specs.declared.grammar.Chars.TheVariants.{Quoted, Code}

@@ -1,14 +1,12 @@
-use Rattle.std.proofs.Common.{◌≡◌, ap, sym, ◌∙◌, refl, get_or, ℕ, List, [], ◌∷◌, codes, None, arith}
+use Rattle.std.proofs.Common.{refl, [], ◌∷◌, codes, arith}
 use Rattle.std.specs.List.{AllByRecursion}
 use Rattle.ix_model.specs.Spells.{IsHex}
-use Rattle.ix_model.specs.declared.grammar.Term.{One}
-use Rattle.ix_model.specs.Breach.{Fault, version, code_point, range, class, undefined, duplicate, IsCodePoint, IsRising, IsKnownClass, IsDefined, Breach, LeastBreach, Conforming}
-use Rattle.ix_model.specs.Factors.{codes_of, ranges_of, classes_of, calls_of}
-use Rattle.ix_model.specs.ExampleGrammars.{quoted, call, of_term, same_names, only_a, hidden}
-use Rattle.ix_model.specs.ExampleSpellings.{numbered, from_to, of_version, last_rule_wrong, two_falling, no_characters, of_class, and_undefined, two_repeated, in_order}
+use Rattle.ix_model.specs.Breach.{undefined}
+use Rattle.ix_model.specs.ExampleGrammars.{only_a, hidden}
+use Rattle.ix_model.specs.ExampleSpellings.{in_order}
 use Rattle.ix_model.proofs.Folds.{the_folds}
-use Rattle.ix_model.proofs.Judging.{no_first, first_once, unknown, unrefused, above_version, above_codes, above_ranges, above_classes, above_calls}
-use Rattle.ix_model.proofs.SmallGrammars.{no_version, not_defined, unique, none_repeated}
+use Rattle.ix_model.proofs.Judging.{unrefused}
+use Rattle.ix_model.proofs.SmallGrammars.{no_version, not_defined, unique}
 use Rattle.ix_model.proofs.examples.conformance.conforming.Goals as goal
 
 pub returns-clause-one_rule : goal.returns-clause-one_rule

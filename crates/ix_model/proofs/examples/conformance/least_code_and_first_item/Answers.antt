@@ -1,12 +1,10 @@
-use Rattle.std.proofs.Common.{◌≡◌, ap, sym, ◌∙◌, refl, get_or, ℕ, List, [], ◌∷◌, codes, None, ◌≤◌, arith}
-use Rattle.ix_model.specs.declared.grammar.Term.{One}
-use Rattle.ix_model.specs.Breach.{Fault, version, code_point, range, class, undefined, duplicate, IsCodePoint, IsRising, IsKnownClass, IsDefined, Breach, LeastBreach}
-use Rattle.ix_model.specs.Factors.{codes_of, ranges_of, classes_of, calls_of}
-use Rattle.ix_model.specs.ExampleGrammars.{quoted, call, of_term, same_names}
-use Rattle.ix_model.specs.ExampleSpellings.{numbered, from_to, of_version, last_rule_wrong, two_falling, no_characters, of_class, and_undefined, two_repeated}
+use Rattle.std.proofs.Common.{◌≡◌, ap, refl, get_or, ℕ, List, [], ◌∷◌, codes, ◌≤◌, arith}
+use Rattle.ix_model.specs.Breach.{code_point, duplicate, IsCodePoint, IsRising}
+use Rattle.ix_model.specs.Factors.{codes_of, ranges_of}
+use Rattle.ix_model.specs.ExampleSpellings.{last_rule_wrong, two_falling, no_characters, two_repeated}
 use Rattle.ix_model.proofs.Folds.{the_folds}
-use Rattle.ix_model.proofs.Judging.{item_once, no_first, first_once, unknown, unrefused, above_version, above_codes, above_ranges, above_classes, above_calls}
-use Rattle.ix_model.proofs.SmallGrammars.{no_version, not_defined, unique, none_repeated}
+use Rattle.ix_model.proofs.Judging.{item_once, first_once, above_version, above_codes, above_calls}
+use Rattle.ix_model.proofs.SmallGrammars.{no_version, none_repeated}
 use Rattle.ix_model.proofs.examples.conformance.least_code_and_first_item.Goals as goal
 
 pub returns-clause-last_rule : goal.returns-clause-last_rule
@@ -31,7 +29,7 @@ pub returns-clause-repeated_first : goal.returns-clause-repeated_first
 returns-clause-repeated_first c = ((3, ((_, refl, refl), 1, omega arith, (_, refl, refl)), none_repeated two_repeated 3 refl), above_calls two_repeated (no_version two_repeated refl) (simp the_folds tt) (simp the_folds tt) (simp the_folds tt) (simp the_folds tt))
 
 pub returns-clause-not_first_pair : goal.returns-clause-not_first_pair
-returns-clause-not_first_pair c = λ h. 
+returns-clause-not_first_pair c = λ h.
     let p : duplicate (codes "b") ≡ duplicate (codes "S") = item_once two_repeated (duplicate (codes "b")) (duplicate (codes "S")) (3, ((_, refl, refl), 1, omega arith, (_, refl, refl)), none_repeated two_repeated 3 refl) h refl in
     let q : codes "b" ≡ codes "S" = cc p in
     omega (arith, ap (λ (x : List ℕ). get_or x 0 0) q)

@@ -3,7 +3,6 @@ use Rattle.unicode.specs.GeneralCategory.{general_category}
 use Rattle.unicode.specs.Rows.{value_in}
 use Rattle.ucd_category.specs.GeneralCategoryRows.{general_category_rows}
 use Rattle.ix_model.specs.Characters.{is_blank, is_name_start, is_name_part}
-use Rattle.ix_model.proofs.ByReading.{reads, reads_none}
 use Rattle.ix_model.proofs.examples.spelling.name_characters.Goals as goal
 
 pub returns-clause-low_line : goal.returns-clause-low_line

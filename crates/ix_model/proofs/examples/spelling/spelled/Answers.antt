@@ -6,7 +6,6 @@ use Rattle.unicode.specs.GeneralCategory.{general_category}
 use Rattle.unicode.specs.Rows.{value_in}
 use Rattle.ucd_category.specs.GeneralCategoryRows.{general_category_rows}
 use Rattle.ix_model.specs.Characters.{is_blank, is_name_start, is_name_part}
-use Rattle.ix_model.specs.Spells.{Spells}
 use Rattle.ix_model.specs.ExampleGrammars.{only_a, two_ways}
 use Rattle.ix_model.specs.ExampleSpellings.{forms, forms_text}
 use Rattle.ix_model.proofs.ByReading.{reads}
