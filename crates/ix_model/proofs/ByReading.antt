@@ -10,8 +10,8 @@ use Rattle.ix_model.specs.Reading.Lexing.{Lexeme, Token, after, has_gap, next, L
 use Rattle.ix_model.specs.Reading.Machine as M
 use Rattle.ix_model.proofs.CharacterFacts.{start_is_part}
 use Rattle.ix_model.proofs.LexemeFacts.{word_reads, WordRead, word_read}
-use Rattle.ix_model.proofs.Sound.{reads_spelled}
-use Rattle.ix_model.proofs.Complete.{spelled_reads, lexes_once, same_some}
+use Rattle.ix_model.proofs.ReadingSound.{reads_spelled}
+use Rattle.ix_model.proofs.ReadingComplete.{spelled_reads, lexes_once, same_some}
 
 -- what was found of the tokens
 pub data Found : Type 0 where

@@ -12,6 +12,7 @@ use Rattle.unicode.specs.GeneralCategory.{general_category}
 use Rattle.unicode.specs.Rows.{value_in}
 use Rattle.ucd_category.specs.GeneralCategoryRows.{general_category_rows}
 use Rattle.ix_model.specs.Characters.{is_one_of, is_blank, is_name_start, is_name_part, is_space, is_digit_or_mark}
+use Rattle.ix_model.proofs.Booleans.{both, not_false}
 
 pub stop_is_part : is_name_part 46 ≡ true
 unfolding is_name_part is_name_start general_category value_in general_category_rows
@@ -32,10 +33,6 @@ visible_apart : list_all is_apart visible ≡ true
 unfolding is_blank is_name_start general_category value_in general_category_rows
 visible_apart = refl
 
-pub both : (a b : Bool) → a && b ≡ true → (a ≡ true) × (b ≡ true)
-both true b h = (refl, h)
-both false b h = absurd (cc h)
-
 pub in_all : (p : ℕ → Bool) (xs : List ℕ) (x : ℕ) → list_all p xs ≡ true → is_one_of xs x ≡ true → p x ≡ true
 in_all p [] x h k = absurd (cc k)
 in_all p (y ∷ ys) x h k =
@@ -44,10 +41,6 @@ in_all p (y ∷ ys) x h k =
       | true ↦ λ e _. ap p (eqb-true x y e) ∙ a.0
       | false ↦ λ _ m. in_all p ys x a.1 m
     ] refl k
-
-untrue : (b : Bool) → not b ≡ true → b ≡ false
-untrue false h = refl
-untrue true h = absurd (cc h)
 
 -- a visible character is no space, begins no name, and opens no comment
 pub record IsVisible (x : ℕ) : Type 0 where
@@ -60,7 +53,7 @@ see x h =
     let a = in_all is_apart visible x visible_apart h in
     let b = both (not (is_blank x)) _ a in
     let c = both (not (is_name_start x)) _ b.1 in
-    record { no_blank = untrue _ b.0; no_start = untrue _ c.0; no_brace = untrue _ c.1 }
+    record { no_blank = not_false _ b.0; no_start = not_false _ c.0; no_brace = not_false _ c.1 }
 
 pub start_is_part : (x : ℕ) → is_name_start x ≡ true → is_name_part x ≡ true
 unfolding is_name_part is_name_start
@@ -105,7 +98,7 @@ no_space x (inr h) = elim (is_space (general_category x)) as (λ b. is_space (ge
 pub start_no_blank : (x : ℕ) → is_name_start x ≡ true → is_blank x ≡ false
 unfolding is_blank
 start_no_blank x h = elim (is_one_of (9 ∷ 10 ∷ 13 ∷ []) x) as (λ b. is_one_of (9 ∷ 10 ∷ 13 ∷ []) x ≡ b → b || is_space (general_category x) ≡ false) [
-  | true ↦ λ e. absurd (cc (h, untrue _ (in_all (λ x. not (is_name_start x)) (9 ∷ 10 ∷ 13 ∷ []) x blanks e)))
+  | true ↦ λ e. absurd (cc (h, not_false _ (in_all (λ x. not (is_name_start x)) (9 ∷ 10 ∷ 13 ∷ []) x blanks e)))
   | false ↦ λ _. no_space x (start_of x h)
 ] refl
 
@@ -129,7 +122,7 @@ space_to_no_part : (x : ℕ) → is_space (general_category x) ≡ true → is_n
 unfolding is_name_part is_name_start
 space_to_no_part x h s =
     elim (is_one_of (45 ∷ 46 ∷ 183 ∷ 8255 ∷ 8256 ∷ []) x) as (λ b. is_one_of (45 ∷ 46 ∷ 183 ∷ 8255 ∷ 8256 ∷ []) x ≡ b → ((x == 95) || in_group Letter (general_category x)) || b || is_digit_or_mark (general_category x) ≡ false) [
-      | true ↦ λ e. absurd (cc (h, untrue _ (in_all (λ x. not (is_space (general_category x))) (45 ∷ 46 ∷ 183 ∷ 8255 ∷ 8256 ∷ []) x points_no_space e)))
+      | true ↦ λ e. absurd (cc (h, not_false _ (in_all (λ x. not (is_space (general_category x))) (45 ∷ 46 ∷ 183 ∷ 8255 ∷ 8256 ∷ []) x points_no_space e)))
       | false ↦ λ _. rw (s, space_no_part _ h) refl
     ] refl
 
@@ -150,7 +143,7 @@ pub blank_no_part : (x : ℕ) → is_blank x ≡ true → is_name_part x ≡ fal
 blank_no_part x h = go (blank_of x h)
   where
     go : (is_one_of (9 ∷ 10 ∷ 13 ∷ []) x ≡ true) ⊎ (is_space (general_category x) ≡ true) → is_name_part x ≡ false
-    go (inl e) = untrue _ (in_all (λ x. not (is_name_part x)) (9 ∷ 10 ∷ 13 ∷ []) x blanks_no_part e)
+    go (inl e) = not_false _ (in_all (λ x. not (is_name_part x)) (9 ∷ 10 ∷ 13 ∷ []) x blanks_no_part e)
     go (inr e) = space_to_no_part x e (blank_no_start x h)
 
 -- the letters of the prolog
@@ -178,7 +171,7 @@ pub digit_apart : (x : ℕ) → is_one_of (codes "0123456789abcdefABCDEF") x ≡
 digit_apart x h =
     let a = both (not (is_blank x)) _ (in_all is_digit_apart (codes "0123456789abcdefABCDEF") x digits_apart h) in
     let b = both (not (x == 123)) _ a.1 in
-    record { no_blank = untrue _ a.0; no_brace = untrue _ b.0; either = b.1 }
+    record { no_blank = not_false _ a.0; no_brace = not_false _ b.0; either = b.1 }
 
 pub close_no_blank : is_blank 125 ≡ false
 unfolding is_blank is_name_start general_category value_in general_category_rows

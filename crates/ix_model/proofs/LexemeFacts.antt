@@ -1,25 +1,16 @@
 -- Words, strings and numbers as relations and as functions.
 use Rattle.std.proofs.Common.{◌≡◌, refl, sym, ap, ap₂, ◌∙◌, subst, ℕ, List, [], ◌∷◌, ◌++◌, inl, inr, Option, Some, None}
 use Rattle.std.proofs.lemmas.Bool.{eqb-true, eq-eqb}
-use Rattle.std.specs.Prelude.{Bool, true, false, not, ◌&&◌, ◌==◌, if◌then◌else◌, IsTrue, option_map}
+use Rattle.std.specs.Prelude.{Bool, true, false, ◌&&◌, ◌==◌, if◌then◌else◌, IsTrue, option_map}
 use Rattle.std.specs.List.{AllByRecursion}
 use Rattle.ix_model.specs.Characters.{is_one_of, is_name_part}
 use Rattle.ix_model.specs.Words.{IsRun, gives_back, ends_run, IsWord}
 use Rattle.ix_model.specs.Spells.{escaped, IsOneLine, is_hex_digit}
 use Rattle.ix_model.specs.Reading.Lexing.{after, Read, push, word_of, digits_of, quoted, closed, begins}
+use Rattle.ix_model.proofs.Booleans.{both, and_false, not_false, false_not}
+use Rattle.ix_model.proofs.Lexing.{after, Read, push, word_of, digits_of, quoted, closed, begins}
 use Rattle.ix_model.proofs.CharacterFacts.{stop_is_part}
 use Rattle.ix_model.proofs.SpacingFacts.{after_is_all, all_is_after}
-
-pub not_false : (b : Bool) → IsTrue (not b) → b ≡ false
-not_false false h = refl
-not_false true h = absurd (cc h)
-
-pub false_not : (b : Bool) → b ≡ false → IsTrue (not b)
-false_not b h = rw h refl
-
-and_true : (a b : Bool) → a && b ≡ true → (a ≡ true) × (b ≡ true)
-and_true true b h = (refl, h)
-and_true false b h = absurd (cc h)
 
 -- ---- words
 
@@ -38,16 +29,8 @@ not_final x [] rest run (inl (r, e, a, h)) =
     rw e q2
 not_final x [] rest run (inr (r, more, e, k, a, h)) =
     let p : ends_run rest ≡ false = ap ends_run e ∙ rw stop_is_part refl in
-    rw p (no_and (x == 46))
-  where
-    no_and : (b : Bool) → b && false ≡ false
-    no_and true = refl
-    no_and false = refl
-not_final x (y ∷ ys) rest run w = rw run.0 (no_and (x == 46))
-  where
-    no_and : (b : Bool) → b && false ≡ false
-    no_and true = refl
-    no_and false = refl
+    rw p (and_false (x == 46))
+not_final x (y ∷ ys) rest run w = rw run.0 (and_false (x == 46))
 
 tail_word : (x : ℕ) (xs rest : List ℕ) → IsWord (x ∷ xs) rest → IsWord xs rest
 tail_word x [] rest (inl (r, e, a, h)) = inl (r, e, a, refl)
@@ -97,8 +80,8 @@ word_read (x ∷ c) =
   where
     final : is_final x c ≡ true → IsWord [] (x ∷ c)
     final q =
-        let a = and_true (x == 46) _ q in
-        let b = and_true (ends_run c) _ a.1 in
+        let a = both (x == 46) _ q in
+        let b = both (ends_run c) _ a.1 in
         inr (after c, c, ap (λ y. y ∷ c) (eqb-true x 46 a.0), b.0, after_is_all c, b.1)
 
 -- ---- numbers

@@ -1,5 +1,5 @@
-pub mod Accepting
 pub mod Asym
+pub mod Booleans
 pub mod ByReading
 pub mod CharacterFacts
 pub mod Children
@@ -43,6 +43,10 @@ pub mod Readings
 pub mod Refusals
 pub mod Rereading
 pub mod Rest
+pub mod ReadingAccepts
+pub mod ReadingComplete
+pub mod ReadingRest
+pub mod ReadingSound
 pub mod Roots
 pub mod Runs
 pub mod SlotPlaces
@@ -56,7 +60,6 @@ pub mod SmallDocuments
 pub mod SmallRules
 pub mod SmallGrammars
 pub mod SmallTexts
-pub mod Sound
 pub mod SpacingFacts
 pub mod Standing
 pub mod SpelledNumbers

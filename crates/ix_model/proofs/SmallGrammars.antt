@@ -9,8 +9,7 @@ use Rattle.ix_model.specs.declared.grammar.Rule.{Rule}
 use Rattle.ix_model.specs.Laws.{HasUniqueNames}
 use Rattle.ix_model.specs.Breach.{IsDefined, IsRepeated}
 use Rattle.ix_model.proofs.Judging.{unique_where_none_repeats}
-use Rattle.ix_model.proofs.CharacterFacts.{both}
-use Rattle.ix_model.proofs.LexemeFacts.{not_false}
+use Rattle.ix_model.proofs.Booleans.{both, not_false}
 
 -- a grammar without a version has none but 1.0
 pub no_version : (g : Grammar) → g.version ≡ None → (text : List ℕ) → g.version ≡ Some text → text ≡ codes "1.0"

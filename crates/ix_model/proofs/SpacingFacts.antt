@@ -98,20 +98,15 @@ mutual
   inside_less c d (other x c1 _ h k) = omega (arith, inside_less c1 d k)
   inside_less c d (nested _ c1 _ h k) = omega (arith, comment_less c c1 h, inside_less c1 d k)
 
+spacing_at_most : (c r : List ℕ) → Spacing c r → length r ≤ length c
+spacing_at_most c r (no_spacing _) = omega arith
+spacing_at_most c r (blank x c1 _ h k) = omega (arith, spacing_at_most c1 r k)
+spacing_at_most c r (comment _ c1 _ h k) = omega (arith, comment_less c c1 h, spacing_at_most c1 r k)
+
 pub spacing_less : (c r : List ℕ) → Spacing c r → (c ≡ r) ⊎ (length r < length c)
 spacing_less c r (no_spacing _) = inl refl
 spacing_less c r (blank x c1 _ h k) = inr (omega (arith, spacing_at_most c1 r k))
-  where
-    spacing_at_most : (c r : List ℕ) → Spacing c r → length r ≤ length c
-    spacing_at_most c r (no_spacing _) = omega arith
-    spacing_at_most c r (blank x c1 _ h k) = omega (arith, spacing_at_most c1 r k)
-    spacing_at_most c r (comment _ c1 _ h k) = omega (arith, comment_less c c1 h, spacing_at_most c1 r k)
 spacing_less c r (comment _ c1 _ h k) = inr (omega (arith, comment_less c c1 h, spacing_at_most c1 r k))
-  where
-    spacing_at_most : (c r : List ℕ) → Spacing c r → length r ≤ length c
-    spacing_at_most c r (no_spacing _) = omega arith
-    spacing_at_most c r (blank x c1 _ h k) = omega (arith, spacing_at_most c1 r k)
-    spacing_at_most c r (comment _ c1 _ h k) = omega (arith, comment_less c c1 h, spacing_at_most c1 r k)
 
 pub after_again : (c : List ℕ) → after (after c) ≡ after c
 after_again c = sym (spacing_runs c (after c) (spacing_to_after c))

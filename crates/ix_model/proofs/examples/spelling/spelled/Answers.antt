@@ -9,7 +9,7 @@ use Rattle.ix_model.specs.Characters.{is_blank, is_name_start, is_name_part}
 use Rattle.ix_model.specs.ExampleGrammars.{only_a, two_ways}
 use Rattle.ix_model.specs.ExampleSpellings.{forms, forms_text}
 use Rattle.ix_model.proofs.ByReading.{reads}
-use Rattle.ix_model.proofs.Complete.{spelled_once}
+use Rattle.ix_model.proofs.ReadingComplete.{spelled_once}
 use Rattle.ix_model.proofs.examples.spelling.spelled.Goals as goal
 
 pub returns-clause-plain : goal.returns-clause-plain

@@ -25,6 +25,11 @@ use Rattle.ix_model.specs.Reading.Tokens.{TokenAt}
 use Rattle.ix_model.specs.Reading.Machine as M
 use Rattle.ix_model.proofs.Rest as R
 use Rattle.ix_model.proofs.Rest.{Tail, MoreTerms, MoreAlts, BoundTail, MoreMembers, SetInner, AfterMark, AltThen, TermThen, ItemThen, FactorThen, RulesThen, EndThen, CloseThen, Closing, DoneThen, MembersThen, NamedThen, StartThen, StopThen, VersionThen, Rest, StepRest, head_of, Then}
+use Rattle.ix_model.proofs.Lexing.{Lexeme, word, quote, hex, at, caret, dash, colon, equals, semi, bar, comma, stop, question, star, stars, plus, pluses, open_group, close_group, open_set, close_set, tilde, Token, after, has_gap, Lexes}
+use Rattle.ix_model.proofs.Tokens.{TokenAt}
+use Rattle.ix_model.proofs.Machine as M
+use Rattle.ix_model.proofs.ReadingRest as R
+use Rattle.ix_model.proofs.ReadingRest.{Tail, MoreTerms, MoreAlts, BoundTail, MoreMembers, SetInner, AfterMark, AltThen, TermThen, ItemThen, FactorThen, RulesThen, EndThen, CloseThen, Closing, DoneThen, MembersThen, NamedThen, StartThen, StopThen, VersionThen, Rest, StepRest, head_of, Then}
 use Rattle.ix_model.proofs.SpacingFacts.{spacing_runs, spacing_to_after}
 use Rattle.ix_model.proofs.TokenFacts.{token_read, token_solid}
 
@@ -44,6 +49,10 @@ FactorHere w b g = (q : List ℕ) × (x : Factor) × FactorAt b q x × DoneThen 
 
 group_here : (w : M.Work) (b c d r : List ℕ) (al : List Alt) (g : Grammar) → Takes (codes "(") b c → S c d → AltsAt d r al → Closing (M.opened w) g al r → FactorHere w b g
 group_here w b c d r al g t s h (e, f, u, v, k) = (f, Group al, Sp.grouped b c d r e f al t s h u v, k)
+
+inner_set : (b r d e : List ℕ) (ms : List Member) → Takes (codes "[") b r → S r d → SetInner d e ms → SetAt b e false ms
+inner_set b r d e ms t s (R.inner_none _ _ u) = Sp.empty_set b r d e t s u
+inner_set b r d e ms t s (R.inner_some _ f _ _ m u) = Sp.members b r d f e ms t s m u
 
 start_sound : (w : M.Work) (k : Lexeme) (b r : List ℕ) (g : Grammar) → TokenAt b r k → StepRest (M.start_factor w k) r g → FactorHere w b g
 start_sound w (word n) b r g t h =
@@ -68,10 +77,6 @@ start_sound w dash b r g t (d, q, x, s, a, k) = (q, x, deleted_mark b r d q x t 
 start_sound w plus b r g t (d, q, cs, s, a, k) = (q, _, Sp.inserted b r d q cs t s a, k)
 start_sound w tilde b r g t (d, e, q, ms, s, a, u, k) = (q, _, Sp.set b b e q None true ms (Sp.no_tmark b) (Sp.excluded b r d e ms t s a) u, k)
 start_sound w open_set b r g t (d, e, ms, s, a, (q, u, k)) = (q, _, Sp.set b b e q None false ms (Sp.no_tmark b) (inner_set b r d e ms t s a) u, k)
-  where
-    inner_set : (b r d e : List ℕ) (ms : List Member) → Takes (codes "[") b r → S r d → SetInner d e ms → SetAt b e false ms
-    inner_set b r d e ms t s (R.inner_none _ _ u) = Sp.empty_set b r d e t s u
-    inner_set b r d e ms t s (R.inner_some _ f _ _ m u) = Sp.members b r d f e ms t s m u
 start_sound w open_group b r g t (d, q, al, s, a, k) = group_here w b r d q al g t s a k
 start_sound w _ b r g t h = absurd h
 
@@ -221,10 +226,6 @@ marked_sound m w (hex ds) b r g t h = let (e, s, k) = done_rest w _ r g h in (e,
 marked_sound m w (word n) b r g t h = let (e, s, k) = done_rest w _ r g h in (e, _, R.mark_call b r e n t s, k)
 marked_sound m w tilde b r g t (d, e, q, ms, s, a, u, k) = (q, _, R.mark_set b e q true ms (Sp.excluded b r d e ms t s a) u, k)
 marked_sound m w open_set b r g t (d, e, ms, s, a, (q, u, k)) = (q, _, R.mark_set b e q false ms (inner_set b r d e ms t s a) u, k)
-  where
-    inner_set : (b r d e : List ℕ) (ms : List Member) → Takes (codes "[") b r → S r d → SetInner d e ms → SetAt b e false ms
-    inner_set b r d e ms t s (R.inner_none _ _ u) = Sp.empty_set b r d e t s u
-    inner_set b r d e ms t s (R.inner_some _ f _ _ m u) = Sp.members b r d f e ms t s m u
 marked_sound m w _ b r g t h = absurd h
 
 -- ---- rules
@@ -333,10 +334,6 @@ step_sound M.inserting w gap (quote xs) c b r g s t q h = let (e, u, k) = done_r
 step_sound M.inserting w gap (hex ds) c b r g s t q h = let (e, u, k) = done_rest w _ r g h in (b, e, chars.Code ds, s, Sp.by_number b r e ds t u, k)
 step_sound M.inserting w gap _ c b r g s t q h = absurd h
 step_sound (M.excluding m) w gap open_set c b r g s t q (d, e, ms, u, a, (f, v, k)) = (b, e, f, ms, s, inner_set b r d e ms t u a, v, k)
-  where
-    inner_set : (b r d e : List ℕ) (ms : List Member) → Takes (codes "[") b r → S r d → SetInner d e ms → SetAt b e false ms
-    inner_set b r d e ms t s (R.inner_none _ _ u) = Sp.empty_set b r d e t s u
-    inner_set b r d e ms t s (R.inner_some _ f _ _ m u) = Sp.members b r d f e ms t s m u
 step_sound (M.excluding m) w gap _ c b r g s t q h = absurd h
 step_sound (M.set_start p) w gap close_set c b r g s t q h =
     let (e, u, k) = done_rest w _ r g h in

@@ -11,6 +11,10 @@ use Rattle.ix_model.specs.Reading.Lexing.{Lexeme, word, quote, hex, at, caret, d
 use Rattle.ix_model.specs.Reading.Tokens.{TokenAt}
 use Rattle.ix_model.specs.Reading.Machine as M
 use Rattle.ix_model.proofs.CharacterFacts.{see, digit_apart, begins_none, IsDigitApart}
+use Rattle.ix_model.proofs.Lexing.{Lexeme, word, quote, star, stars, plus, pluses, Token, after, has_gap, Lexes, next, Read, quoted, word_of, begins, mark_of, rest_of}
+use Rattle.ix_model.proofs.Tokens.{TokenAt}
+use Rattle.ix_model.proofs.Machine as M
+use Rattle.ix_model.proofs.CharacterFacts.{visible, see, digit_apart, begins_none}
 use Rattle.ix_model.proofs.SpacingFacts.{spacing_runs, spacing_less}
 use Rattle.ix_model.proofs.TokenFacts.{token_reads, token_solid, Fits}
 
@@ -102,7 +106,7 @@ quote_first x c k r a b e =
 abbrev TakesNoQuote : M.Phase → M.Work → Type 0
 TakesNoQuote p w = (xs : List ℕ) (a : Bool) → M.step p w a (quote xs) ≡ None
 
-not_quote : (p : M.Phase) (w : M.Work) (n : ℕ) (r : List ℕ) (g : Grammar) → is_one_of (codes "\"'") n ≡ true → is_one_of Rattle.ix_model.proofs.CharacterFacts.visible n ≡ true → TakesNoQuote p w → Accepts p w r g → begins n r ≡ false
+not_quote : (p : M.Phase) (w : M.Work) (n : ℕ) (r : List ℕ) (g : Grammar) → is_one_of (codes "\"'") n ≡ true → is_one_of visible n ≡ true → TakesNoQuote p w → Accepts p w r g → begins n r ≡ false
 not_quote p w n [] g m v f h = refl
 not_quote p w n (x ∷ c) g m v f h =
     elim (x == n) as (λ b. (x == n) ≡ b → b ≡ false) [
@@ -112,7 +116,7 @@ not_quote p w n (x ∷ c) g m v f h =
   where
     no : x ≡ n → ⊥
     no e =
-        let i = see x (ap (is_one_of Rattle.ix_model.proofs.CharacterFacts.visible) e ∙ v) in
+        let i = see x (ap (is_one_of visible) e ∙ v) in
         let u = first p w x c g i.no_blank i.no_brace h in
         let q = quote_first x c u.lexeme u.rest i.no_start (ap (is_one_of (codes "\"'")) e ∙ m) u.is_next in
         u.stands (ap (M.step p w u.gap) q.1 ∙ f q.0 u.gap)
@@ -184,6 +188,8 @@ no_star p w (x ∷ c) g f h =
         let u = first p w 42 c g i.no_blank i.no_brace (subst (λ (z : ℕ). Accepts p w (z ∷ c) g) e h) in
         let q : next (42 ∷ c) ≡ pair_of (begins 42 c) star stars c (Rattle.ix_model.specs.Reading.Lexing.rest_of c) = rw i.no_start refl in
         go u.lexeme u.gap u.stands (pair_lexeme (begins 42 c) star stars c (Rattle.ix_model.specs.Reading.Lexing.rest_of c) u.lexeme u.rest (sym q ∙ u.is_next))
+        let q : next (42 ∷ c) ≡ pair_of (begins 42 c) star stars c (rest_of c) = rw i.no_start refl in
+        go u.lexeme u.gap u.stands (pair_lexeme (begins 42 c) star stars c (rest_of c) u.lexeme u.rest (sym q ∙ u.is_next))
       where
         go : (k : Lexeme) (a : Bool) → (M.step p w a k ≡ None → ⊥) → (k ≡ star) ⊎ (k ≡ stars) → ⊥
         go k a s (inl e) = s (ap (M.step p w a) e ∙ (f a).0)
@@ -206,6 +212,8 @@ no_plus p w (x ∷ c) g f h =
         let u = first p w 43 c g i.no_blank i.no_brace (subst (λ (z : ℕ). Accepts p w (z ∷ c) g) e h) in
         let q : next (43 ∷ c) ≡ pair_of (begins 43 c) plus pluses c (Rattle.ix_model.specs.Reading.Lexing.rest_of c) = rw i.no_start refl in
         go u.lexeme u.gap u.stands (pair_lexeme (begins 43 c) plus pluses c (Rattle.ix_model.specs.Reading.Lexing.rest_of c) u.lexeme u.rest (sym q ∙ u.is_next))
+        let q : next (43 ∷ c) ≡ pair_of (begins 43 c) plus pluses c (rest_of c) = rw i.no_start refl in
+        go u.lexeme u.gap u.stands (pair_lexeme (begins 43 c) plus pluses c (rest_of c) u.lexeme u.rest (sym q ∙ u.is_next))
       where
         go : (k : Lexeme) (a : Bool) → (M.step p w a k ≡ None → ⊥) → (k ≡ plus) ⊎ (k ≡ pluses) → ⊥
         go k a s (inl e) = s (ap (M.step p w a) e ∙ (f a).0)

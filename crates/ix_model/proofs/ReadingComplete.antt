@@ -17,7 +17,7 @@ use Rattle.ix_model.specs.declared.grammar.Bound.TheVariants as bound
 use Rattle.ix_model.specs.declared.grammar.Alt.{Alt}
 use Rattle.ix_model.specs.declared.grammar.Term.{Term, One, Opt, Star, Plus}
 use Rattle.ix_model.specs.declared.grammar.Factor.{Factor, Lit, Set, Call, Insert, Group}
-use Rattle.ix_model.specs.Characters.{is_name_start, is_name_part}
+use Rattle.ix_model.specs.Characters.{is_one_of, is_name_start, is_name_part}
 use Rattle.ix_model.specs.Spacing.{Takes, S, RS}
 use Rattle.ix_model.specs.Words.{NameAt, ends_run}
 use Rattle.ix_model.specs.Spacing as Sg
@@ -27,10 +27,14 @@ use Rattle.ix_model.specs.Reading.Lexing.{Lexeme, word, quote, hex, at, caret, d
 use Rattle.ix_model.specs.Reading.Tokens.{TokenAt}
 use Rattle.ix_model.specs.Reading.Machine as M
 use Rattle.ix_model.proofs.CharacterFacts.{blank_no_part, brace_no_part, in_all, both, letters}
+use Rattle.ix_model.proofs.Lexing.{Lexeme, word, quote, hex, at, caret, dash, colon, equals, semi, bar, comma, stop, question, star, stars, plus, pluses, open_group, close_group, open_set, close_set, tilde, Token, after, has_gap, Lexes, next}
+use Rattle.ix_model.proofs.Tokens.{TokenAt}
+use Rattle.ix_model.proofs.Machine as M
+use Rattle.ix_model.proofs.CharacterFacts.{blank_no_part, brace_no_part, in_all, letters}
 use Rattle.ix_model.proofs.SpacingFacts.{after_is_all, spacing_runs, spacing_less, spacing_to_after}
 use Rattle.ix_model.proofs.TokenFacts.{token_solid, Fits}
-use Rattle.ix_model.proofs.LexemeFacts.{false_not}
-use Rattle.ix_model.proofs.Accepting.{Accepts, AcceptsFrom, token_accepts, reads, spaced, gap_true, no_quote, no_digit, no_star, no_plus, behind_factor}
+use Rattle.ix_model.proofs.Booleans.{both, false_not}
+use Rattle.ix_model.proofs.ReadingAccepts.{Accepts, AcceptsFrom, token_accepts, reads, spaced, gap_true, no_quote, no_digit, no_star, no_plus, behind_factor}
 
 module _ (g : Grammar) where
   -- ---- behind a factor
@@ -455,7 +459,7 @@ module _ (g : Grammar) where
   ends_behind c d (Sg.blank x _ _ h s) n = false_not _ (blank_no_part x h)
   ends_behind c d (Sg.comment _ _ _ (Sg.braces _ e f _ h i j) s) n = subst (λ (z : List ℕ). IsTrue (ends_run z)) (sym h) (false_not _ brace_no_part)
 
-  letter : (x : ℕ) → Rattle.ix_model.specs.Characters.is_one_of (codes "ixmlversion") x ≡ true → (is_name_start x ≡ true) × (is_name_part x ≡ true)
+  letter : (x : ℕ) → is_one_of (codes "ixmlversion") x ≡ true → (is_name_start x ≡ true) × (is_name_part x ≡ true)
   letter x h = both (is_name_start x) (is_name_part x) (in_all (λ x. is_name_start x && is_name_part x) (codes "ixmlversion") x letters h)
 
   ixml_name : (b c d : List ℕ) → Takes (codes "ixml") b c → RS c d → NameAt b c (codes "ixml")
