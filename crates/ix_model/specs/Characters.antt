@@ -1,5 +1,5 @@
 -- The characters that stand between tokens, that begin a name, and that stand within one.
--- Source: Invisible XML 1.0, "Specification grammar" (whitespace, namestart, namefollower); the categories are those of the Unicode Standard.
+-- Source: Invisible XML 1.0, the rules whitespace, namestart and namefollower of its grammar; the categories are those of the Unicode Standard.
 use Rattle.std.specs.Prelude.{ℕ, Bool, true, false, ◌||◌, ◌==◌, List, [], ◌∷◌}
 use Rattle.unicode.specs.GeneralCategory.{general_category}
 use Rattle.unicode.specs.GeneralCategoryGroup.{in_group}

@@ -1,7 +1,7 @@
 -- How many parentheses stand open at once where a grammar is spelled, at most. In a spelling a parenthesis that is neither in a
 -- string nor in a comment stands around the alternatives of a group, and each group has one pair of them. So the parentheses that
 -- stand open at a place are those of the groups around it, and their greatest number is the greatest nesting of groups in the value.
--- Source: Invisible XML 1.0, "Specification grammar" (factor); that a processor counts them is this project's own.
+-- Source: Invisible XML 1.0, the rule factor of its grammar. That a processor counts them is this project's own.
 use Rattle.std.specs.Prelude.{ℕ, ◌+◌, max, List, [], ◌∷◌, Option, Some, None, map}
 use Rattle.ix_model.specs.declared.grammar.Grammar.{Grammar}
 use Rattle.ix_model.specs.declared.grammar.Rule.{Rule}

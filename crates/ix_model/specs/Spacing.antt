@@ -1,6 +1,6 @@
 -- Spacing: the blanks and comments that may stand between the parts of a grammar.
 -- A relation here goes from characters to those that are left behind what it speaks of.
--- Source: Invisible XML 1.0, "Specification grammar" (s, RS, comment).
+-- Source: Invisible XML 1.0, the rules s, RS, whitespace and comment of its grammar.
 use Rattle.std.specs.Prelude.{◌≡◌, ◌≢◌, ℕ, not, List, ◌∷◌, ◌++◌, codes, IsTrue}
 use Rattle.ix_model.specs.Characters.{is_one_of, is_blank}
 

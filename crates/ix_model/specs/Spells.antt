@@ -1,6 +1,6 @@
 -- Which characters spell a grammar: one relation for each rule of the grammar of grammars, by cases on whole lists of characters.
 -- `XAt b r x` says that the characters b are a spelling of x and then r. Names end by the rule of `Words`.
--- Source: Invisible XML 1.0, "Specification grammar".
+-- Source: Invisible XML 1.0, the grammar of grammars, rule by rule.
 use Rattle.std.specs.Prelude.{◌≡◌, ◌≢◌, ◌⊎◌, ℕ, Bool, true, false, not, ◌==◌, ◌&&◌, nat_le, if◌then◌else◌, List, [], ◌∷◌, ◌++◌, codes, IsTrue, Option, Some, None}
 use Rattle.std.specs.List.{AllByRecursion}
 use Rattle.ix_model.specs.declared.grammar.Grammar.{Grammar}

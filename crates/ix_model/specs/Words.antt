@@ -1,7 +1,7 @@
 -- Names, and where they end. A name is a run of name characters as long as it can be, but for a full stop at the end of the run:
 -- that one is given back where nothing that may stand behind a name comes next. So `S: a.` ends with a rule's full stop, and in
 -- `S: b.. b.: "x".` the name is `b.`.
--- Source: Invisible XML 1.0, "Specification grammar" (name). Where a name ends is this project's own.
+-- Source: Invisible XML 1.0, the rule name of its grammar. Where a name ends is this project's own.
 use Rattle.std.specs.Prelude.{◌≡◌, ◌⊎◌, ℕ, Bool, true, false, not, ◌&&◌, ◌==◌, List, [], ◌∷◌, ◌++◌, codes, IsTrue}
 use Rattle.std.specs.List.{AllByRecursion}
 use Rattle.ix_model.specs.Characters.{is_one_of, is_name_start, is_name_part}
