@@ -6,9 +6,8 @@ use Rattle.std.specs.List.{AllByRecursion}
 use Rattle.ix_model.specs.Characters.{is_one_of, is_name_part}
 use Rattle.ix_model.specs.Words.{IsRun, gives_back, ends_run, IsWord}
 use Rattle.ix_model.specs.Spells.{escaped, IsOneLine, is_hex_digit}
-use Rattle.ix_model.specs.Reading.Lexing.{after, Read, push, word_of, digits_of, quoted, closed, begins}
 use Rattle.ix_model.proofs.Booleans.{both, and_false, not_false, false_not}
-use Rattle.ix_model.proofs.Lexing.{after, Read, push, word_of, digits_of, quoted, closed, begins}
+use Rattle.ix_model.specs.Reading.Lexing.{after, Read, push, word_of, digits_of, quoted, closed, begins}
 use Rattle.ix_model.proofs.CharacterFacts.{stop_is_part}
 use Rattle.ix_model.proofs.SpacingFacts.{after_is_all, all_is_after}
 

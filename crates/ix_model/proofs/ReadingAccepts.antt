@@ -7,13 +7,9 @@ use Rattle.ix_model.specs.declared.grammar.Factor.{Factor}
 use Rattle.ix_model.specs.Characters.{is_one_of, is_blank, is_name_start}
 use Rattle.ix_model.specs.Spacing.{S, RS, no_spacing}
 use Rattle.ix_model.specs.Spells.{is_hex_digit}
-use Rattle.ix_model.specs.Reading.Lexing.{Lexeme, word, quote, hex, at, caret, dash, colon, equals, semi, bar, comma, stop, question, star, stars, plus, pluses, open_group, close_group, open_set, close_set, tilde, Token, after, has_gap, Lexes, next, Read, quoted, word_of, begins, mark_of}
+use Rattle.ix_model.specs.Reading.Lexing.{Lexeme, word, quote, star, stars, plus, pluses, Token, after, has_gap, Lexes, next, Read, quoted, word_of, begins, mark_of, rest_of}
 use Rattle.ix_model.specs.Reading.Tokens.{TokenAt}
 use Rattle.ix_model.specs.Reading.Machine as M
-use Rattle.ix_model.proofs.CharacterFacts.{see, digit_apart, begins_none, IsDigitApart}
-use Rattle.ix_model.proofs.Lexing.{Lexeme, word, quote, star, stars, plus, pluses, Token, after, has_gap, Lexes, next, Read, quoted, word_of, begins, mark_of, rest_of}
-use Rattle.ix_model.proofs.Tokens.{TokenAt}
-use Rattle.ix_model.proofs.Machine as M
 use Rattle.ix_model.proofs.CharacterFacts.{visible, see, digit_apart, begins_none}
 use Rattle.ix_model.proofs.SpacingFacts.{spacing_runs, spacing_less}
 use Rattle.ix_model.proofs.TokenFacts.{token_reads, token_solid, Fits}
@@ -186,8 +182,6 @@ no_star p w (x ∷ c) g f h =
     no e =
         let i = see 42 refl in
         let u = first p w 42 c g i.no_blank i.no_brace (subst (λ (z : ℕ). Accepts p w (z ∷ c) g) e h) in
-        let q : next (42 ∷ c) ≡ pair_of (begins 42 c) star stars c (Rattle.ix_model.specs.Reading.Lexing.rest_of c) = rw i.no_start refl in
-        go u.lexeme u.gap u.stands (pair_lexeme (begins 42 c) star stars c (Rattle.ix_model.specs.Reading.Lexing.rest_of c) u.lexeme u.rest (sym q ∙ u.is_next))
         let q : next (42 ∷ c) ≡ pair_of (begins 42 c) star stars c (rest_of c) = rw i.no_start refl in
         go u.lexeme u.gap u.stands (pair_lexeme (begins 42 c) star stars c (rest_of c) u.lexeme u.rest (sym q ∙ u.is_next))
       where
@@ -210,8 +204,6 @@ no_plus p w (x ∷ c) g f h =
     no e =
         let i = see 43 refl in
         let u = first p w 43 c g i.no_blank i.no_brace (subst (λ (z : ℕ). Accepts p w (z ∷ c) g) e h) in
-        let q : next (43 ∷ c) ≡ pair_of (begins 43 c) plus pluses c (Rattle.ix_model.specs.Reading.Lexing.rest_of c) = rw i.no_start refl in
-        go u.lexeme u.gap u.stands (pair_lexeme (begins 43 c) plus pluses c (Rattle.ix_model.specs.Reading.Lexing.rest_of c) u.lexeme u.rest (sym q ∙ u.is_next))
         let q : next (43 ∷ c) ≡ pair_of (begins 43 c) plus pluses c (rest_of c) = rw i.no_start refl in
         go u.lexeme u.gap u.stands (pair_lexeme (begins 43 c) plus pluses c (rest_of c) u.lexeme u.rest (sym q ∙ u.is_next))
       where

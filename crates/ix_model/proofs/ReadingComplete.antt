@@ -26,10 +26,6 @@ use Rattle.ix_model.specs.Spells.{StringAt, HexAt, MarkAt, TMarkAt, CharsAt, Bou
 use Rattle.ix_model.specs.Reading.Lexing.{Lexeme, word, quote, hex, at, caret, dash, colon, equals, semi, bar, comma, stop, question, star, stars, plus, pluses, open_group, close_group, open_set, close_set, tilde, Token, after, has_gap, Lexes, next}
 use Rattle.ix_model.specs.Reading.Tokens.{TokenAt}
 use Rattle.ix_model.specs.Reading.Machine as M
-use Rattle.ix_model.proofs.CharacterFacts.{blank_no_part, brace_no_part, in_all, both, letters}
-use Rattle.ix_model.proofs.Lexing.{Lexeme, word, quote, hex, at, caret, dash, colon, equals, semi, bar, comma, stop, question, star, stars, plus, pluses, open_group, close_group, open_set, close_set, tilde, Token, after, has_gap, Lexes, next}
-use Rattle.ix_model.proofs.Tokens.{TokenAt}
-use Rattle.ix_model.proofs.Machine as M
 use Rattle.ix_model.proofs.CharacterFacts.{blank_no_part, brace_no_part, in_all, letters}
 use Rattle.ix_model.proofs.SpacingFacts.{after_is_all, spacing_runs, spacing_less, spacing_to_after}
 use Rattle.ix_model.proofs.TokenFacts.{token_solid, Fits}

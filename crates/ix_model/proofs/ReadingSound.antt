@@ -23,11 +23,6 @@ use Rattle.ix_model.specs.Spells.{StringAt, HexAt, MarkAt, CharsAt, BoundAt, Mem
 use Rattle.ix_model.specs.Reading.Lexing.{Lexeme, word, quote, hex, at, caret, dash, colon, equals, semi, bar, comma, stop, question, star, stars, plus, pluses, open_group, close_group, open_set, close_set, tilde, Token, after, has_gap, Lexes}
 use Rattle.ix_model.specs.Reading.Tokens.{TokenAt}
 use Rattle.ix_model.specs.Reading.Machine as M
-use Rattle.ix_model.proofs.Rest as R
-use Rattle.ix_model.proofs.Rest.{Tail, MoreTerms, MoreAlts, BoundTail, MoreMembers, SetInner, AfterMark, AltThen, TermThen, ItemThen, FactorThen, RulesThen, EndThen, CloseThen, Closing, DoneThen, MembersThen, NamedThen, StartThen, StopThen, VersionThen, Rest, StepRest, head_of, Then}
-use Rattle.ix_model.proofs.Lexing.{Lexeme, word, quote, hex, at, caret, dash, colon, equals, semi, bar, comma, stop, question, star, stars, plus, pluses, open_group, close_group, open_set, close_set, tilde, Token, after, has_gap, Lexes}
-use Rattle.ix_model.proofs.Tokens.{TokenAt}
-use Rattle.ix_model.proofs.Machine as M
 use Rattle.ix_model.proofs.ReadingRest as R
 use Rattle.ix_model.proofs.ReadingRest.{Tail, MoreTerms, MoreAlts, BoundTail, MoreMembers, SetInner, AfterMark, AltThen, TermThen, ItemThen, FactorThen, RulesThen, EndThen, CloseThen, Closing, DoneThen, MembersThen, NamedThen, StartThen, StopThen, VersionThen, Rest, StepRest, head_of, Then}
 use Rattle.ix_model.proofs.SpacingFacts.{spacing_runs, spacing_to_after}

@@ -6,11 +6,9 @@ use Rattle.std.specs.List.{AllByRecursion}
 use Rattle.ix_model.specs.Characters.{is_one_of, is_blank, is_name_start, is_name_part}
 use Rattle.ix_model.specs.Words.{IsWord, NameAt, ends_run}
 use Rattle.ix_model.specs.Spells.{escaped, IsOneLine, is_hex_digit}
+use Rattle.ix_model.proofs.Booleans.{not_false}
 use Rattle.ix_model.specs.Reading.Lexing.{Lexeme, word, quote, hex, at, caret, dash, colon, equals, semi, bar, comma, stop, question, star, stars, plus, pluses, open_group, close_group, open_set, close_set, tilde, after, Read, word_of, digits_of, hex_of, quoted, begins, rest_of, mark_of, next}
 use Rattle.ix_model.specs.Reading.Tokens.{TokenAt}
-use Rattle.ix_model.proofs.Booleans.{not_false}
-use Rattle.ix_model.proofs.Lexing.{Lexeme, word, quote, hex, at, caret, dash, colon, equals, semi, bar, comma, stop, question, star, stars, plus, pluses, open_group, close_group, open_set, close_set, tilde, after, Read, word_of, digits_of, hex_of, quoted, begins, rest_of, mark_of, next}
-use Rattle.ix_model.proofs.Tokens.{TokenAt}
 use Rattle.ix_model.proofs.CharacterFacts.{visible, see, start_is_part, start_no_brace, start_no_blank}
 use Rattle.ix_model.proofs.LexemeFacts.{word_reads, WordRead, word_read, digits_read, digits_are, string_reads, IsStringRest, string_read}
 

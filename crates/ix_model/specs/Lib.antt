@@ -16,10 +16,10 @@ pub mod Dyn
 pub mod Entered
 pub mod ExampleGivens
 pub mod ExampleGrammars
+pub mod ExamplePlans
 pub mod ExampleReadings
 pub mod ExampleRules
 pub mod ExampleSpellings
-pub mod ExamplePlans
 pub mod ExampleTrees
 pub mod Expanded
 pub mod ExpansionLaws
@@ -42,8 +42,8 @@ pub mod Places
 pub mod Plain
 pub mod Planned
 pub mod Ranges
-pub mod Reading
 pub mod Reached
+pub mod Reading
 pub mod Sets
 pub mod SlotLaws
 pub mod SlotPlaces

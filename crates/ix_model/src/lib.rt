@@ -4,10 +4,10 @@
 mod char_set;
 pub mod choice_examples;
 pub mod choice_laws;
-pub mod command_laws;
 pub mod closure_laws;
-mod counts;
+pub mod command_laws;
 pub mod conformance_laws;
+mod counts;
 pub mod examples;
 pub mod expansion_laws;
 mod grammar;

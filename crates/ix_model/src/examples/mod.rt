@@ -1,9 +1,9 @@
 //! Worked examples of the definitions, each proved: what holds, and beside it what does not.
 
+pub mod closure;
 pub mod commands;
 pub mod conformance;
 pub mod depth;
-pub mod closure;
 pub mod derivations;
 pub mod documents;
 pub mod expansion;
@@ -14,5 +14,5 @@ pub mod readings;
 pub mod refusals;
 pub mod spelling;
 pub mod terminals;
-pub mod walks;
 pub mod useful;
+pub mod walks;

@@ -3,7 +3,6 @@ use Rattle.unicode.specs.GeneralCategory.{general_category}
 use Rattle.unicode.specs.Rows.{value_in}
 use Rattle.ucd_category.specs.GeneralCategoryRows.{general_category_rows}
 use Rattle.ix_model.specs.Characters.{is_blank, is_name_start, is_name_part}
-use Rattle.ix_model.specs.Reading.Lexing.{after}
 use Rattle.ix_model.proofs.SpacingFacts.{spacing_runs, spacing_to_after, after_is_all, all_is_after}
 use Rattle.ix_model.proofs.examples.spelling.comments_within_comments.Goals as goal
 
