@@ -2,7 +2,8 @@ use Rattle.std.proofs.Common.{sym, ap, ◌∙◌, None}
 use Rattle.ix_model.specs.declared.rules.Sym.TheVariants as sy
 use Rattle.ix_model.specs.Lift.{lift}
 use Rattle.ix_model.specs.Lower.{lower}
-use Rattle.ix_model.proofs.Lifting.{lift_derives, first_of}
+use Rattle.ix_model.proofs.Lifting.{lift_derives}
+use Rattle.ix_model.proofs.Readers.{get_within}
 use Rattle.ix_model.proofs.LowerOfLift.{lower_lift}
 use Rattle.ix_model.proofs.Lowering.{lower_derives}
 use Rattle.ix_model.proofs.LiftOfLower.{lift_lower}
@@ -23,7 +24,7 @@ returns c = λ g plan p planned. (
       ),
   λ h.
       let t = ways_ambiguous plan planned h in
-      let rule = first_of g.rules p.first in
+      let rule = get_within g.rules 0 p.first in
       let back = lower_lift g plan.rules plan.slots plan.text p.text p.expanded rule.0 rule.1 in
       let derives = lift_derives g plan.rules plan.slots plan.text p.text p.expanded rule.0 rule.1 in (
         lift plan.rules t.0,
