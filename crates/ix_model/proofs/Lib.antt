@@ -1,3 +1,5 @@
+pub mod Accepting
+pub mod Answers
 pub mod Asym
 pub mod Booleans
 pub mod ByReading

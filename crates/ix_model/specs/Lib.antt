@@ -1,3 +1,4 @@
+pub mod Answer
 pub mod Bare
 pub mod Breach
 pub mod Characters
@@ -10,10 +11,12 @@ pub mod Codes
 pub mod CommandLaws
 pub mod CommandLine
 pub mod ConformanceLaws
+pub mod Decoding
 pub mod Depth
 pub mod Derives
 pub mod Dyn
 pub mod Entered
+pub mod ExampleAnswers
 pub mod ExampleGivens
 pub mod ExampleGrammars
 pub mod ExamplePlans
@@ -36,6 +39,7 @@ pub mod Numbered
 pub mod Numbering
 pub mod Offset
 pub mod Order
+pub mod Outcome
 pub mod OutcomeLaws
 pub mod Parts
 pub mod Places
