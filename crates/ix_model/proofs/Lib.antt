@@ -1,4 +1,3 @@
-pub mod Accepting
 pub mod Answers
 pub mod Asym
 pub mod Booleans
