@@ -1,7 +1,7 @@
 //! Worked examples of the definitions, each proved: what holds, and beside it what does not.
 
-pub mod closure;
 pub mod answers;
+pub mod closure;
 pub mod commands;
 pub mod conformance;
 pub mod depth;
