@@ -8,7 +8,8 @@ pub fn slots_tell_the_dot()
     ensures { SlotsTellTheDot }
 {}
 
-/// A fact is in the closure exactly where its rule is called and trees derive its span.
+/// A fact is in the closure exactly where its rule is called and trees derive its span; a rule is called at the start
+/// and where a return edge leads from its cluster.
 pub fn closed_is_exact()
     ensures { ClosedIsExact }
 {}
@@ -33,7 +34,8 @@ pub fn useful_is_reached()
     ensures { UsefulIsReached }
 {}
 
-/// A derivation exists exactly where the closure has the root.
+/// A derivation exists exactly where the first rule ends with the text, where the closure has the root, and where some
+/// subtree is useful.
 pub fn root_is_there()
     ensures { RootIsThere }
 {}

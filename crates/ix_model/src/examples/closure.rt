@@ -5,7 +5,7 @@ ghost use Rattle.ix_model.specs.FlatTrees.{flat_text, no_flat};
 ghost use Rattle.ix_model.specs.SlotPlaces.{IsFirst, IsLast, HasNext};
 ghost use Rattle.ix_model.specs.Closed.{Called, Desc, Edge, End, Part};
 ghost use Rattle.ix_model.specs.ClosedLaws.{IsCalledFor, Covers, IsLastFrom};
-ghost use Rattle.ix_model.specs.ExamplePlans.{call, literal, alone, pair, only_a, cycle, nothing, insertion, two_halves};
+ghost use Rattle.ix_model.specs.ExamplePlans.{literal, alone, only_a, cycle, nothing, insertion, two_halves};
 
 /// The slots of `S: "a".`: before its literal, and behind it.
 pub fn slots_of_one_literal()

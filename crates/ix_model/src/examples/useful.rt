@@ -1,4 +1,4 @@
-ghost use Rattle.std.specs.Prelude.{ℕ, [], codes};
+ghost use Rattle.std.specs.Prelude.{[], codes};
 ghost use Rattle.ix_model.specs.FlatTrees.{flat_node, no_flat};
 ghost use Rattle.ix_model.specs.Closed.{Part};
 ghost use Rattle.ix_model.specs.Useful.{sub_at, IsSub, Stands, Useful};
