@@ -88,7 +88,7 @@ count_is_one figures most word n m h k = h.2 ∙ sym k.2
 
 workers_are_one : (values : Words) (n m : ℕ) → IsWorkers values n → IsWorkers values m → n ≡ m
 workers_are_one [] n m h k = h ∙ sym k
-workers_are_one (val ∷ []) n m h k = count_is_one 3 64 val n m h k
+workers_are_one (val ∷ []) n m h k = count_is_one _ _ val n m h k
 workers_are_one (val ∷ other ∷ values) n m h k = absurd h
 
 -- the first letter
@@ -236,7 +236,7 @@ count_or_none figures most word = by_all (at_most 1 (length word)) (all_digits w
 
 workers_or_none : (values : Words) → ((n : ℕ) × IsWorkers values n) ⊎ ((n : ℕ) → ¬ (IsWorkers values n))
 workers_or_none [] = inl (2, refl)
-workers_or_none (val ∷ []) = count_or_none 3 64 val
+workers_or_none (val ∷ []) = count_or_none _ _ val
 workers_or_none (val ∷ other ∷ values) = inr (λ n h. h)
 
 module _ (word : List ℕ) (operands values : Words) where
