@@ -36,6 +36,7 @@ pub mod Lowering
 pub mod Numbers
 pub mod Once
 pub mod Reaching
+pub mod OneAnswer
 pub mod Readers
 pub mod ReadingAccepts
 pub mod ReadingComplete

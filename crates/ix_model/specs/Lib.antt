@@ -1,4 +1,5 @@
 pub mod Answer
+pub mod AnswerLaws
 pub mod Bare
 pub mod Breach
 pub mod Characters

@@ -1,6 +1,7 @@
 //! The written grammar and the numbered rules, and the definitions that every theorem of this project is about.
 #![tactic(auto)]
 
+pub mod answer_laws;
 mod char_set;
 pub mod choice_examples;
 pub mod choice_laws;

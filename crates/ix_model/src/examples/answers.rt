@@ -26,6 +26,7 @@ pub fn texts()
     ensures behind_mark { Answer parse_g_t (holding one_way (239 ∷ 187 ∷ 191 ∷ codes "a")) 0 (codes "<S>a</S>\n") [] }
     ensures ambiguous { Answer parse_g_t (holding both_ways (codes "a")) 0 (codes "<S xmlns:ixml=\"http://invisiblexml.org/NS\" ixml:state=\"ambiguous\">a</S>\n") [] }
     ensures failed { Answer parse_g_t (holding one_way (codes "ab")) 1 (codes "<fail xmlns:ixml=\"http://invisiblexml.org/NS\" ixml:state=\"failed\" offset=\"1\" line=\"1\" column=\"2\"/>\n") [] }
+    ensures no_other_status { (output message : List ℕ) → ¬ (Answer parse_g_t (holding one_way (codes "ab")) 0 output message) }
     ensures not_utf8 { Answer parse_g_t (holding one_way (97 ∷ 195 ∷ [])) 5 [] (codes "ixml: text is not UTF-8 after 1 bytes\n") }
 {}
 

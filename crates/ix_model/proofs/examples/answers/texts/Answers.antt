@@ -1,4 +1,4 @@
-use Rattle.std.proofs.Common.{refl, [], ◌∷◌, codes, arith}
+use Rattle.std.proofs.Common.{◌≡◌, refl, ap, [], ◌∷◌, codes, arith}
 use mathlib.Core.Logic.{inr}
 use Rattle.unicode.specs.GeneralCategory.{general_category}
 use Rattle.unicode.specs.Rows.{value_in}
@@ -9,11 +9,12 @@ use Rattle.std.specs.Fmt.{digits}
 use Rattle.ix_model.specs.Characters.{is_blank, is_name_start, is_name_part}
 use Rattle.ix_model.specs.declared.state.State.TheVariants.{Single, Ambiguous}
 use Rattle.ix_model.specs.FailedXml.{failed_xml}
-use Rattle.ix_model.specs.Outcome.{failed, document, text_not_utf8}
+use Rattle.ix_model.specs.Outcome.{status_of, failed, document, text_not_utf8}
 use Rattle.ix_model.specs.ExampleGrammars.{only_a, two_ways}
-use Rattle.ix_model.specs.ExampleAnswers.{one_way, both_ways}
+use Rattle.ix_model.specs.ExampleAnswers.{parse_g_t, holding, one_way, both_ways}
 use Rattle.ix_model.proofs.ByReading.{reads}
 use Rattle.ix_model.proofs.Answers.{parses_g_t, only_a_conforms, two_ways_conforms, shallow_a, shallow_both, a_parsed, a_parsed_twice, ab_failed, not_utf8}
+use Rattle.ix_model.proofs.OneAnswer.{answered_once}
 use Rattle.ix_model.proofs.examples.answers.texts.Goals as goal
 
 pub returns-clause-single : goal.returns-clause-single
@@ -35,3 +36,9 @@ returns-clause-failed c = (failed 1 1 2, inr (inr (codes "g", codes "t", one_way
 pub returns-clause-not_utf8 : goal.returns-clause-not_utf8
 unfolding is_blank is_name_start is_name_part general_category value_in general_category_rows chars lib.Utf8.encode utf8_valid_len is_utf8 digits
 returns-clause-not_utf8 c = (text_not_utf8 1, inr (inr (codes "g", codes "t", one_way, 2, parses_g_t, refl, inr (only_a, (((omega arith, (one_way, (refl, refl))), reads _ _ refl, shallow_a), only_a_conforms), (97 ∷ 195 ∷ []), refl, (omega arith, not_utf8 _ refl, refl)))), refl, refl, refl)
+
+pub returns-clause-no_other_status : goal.returns-clause-no_other_status
+returns-clause-no_other_status c = λ output message h.
+    let known = returns-clause-failed c in
+    let same : status_of h.0 ≡ status_of known.0 = ap status_of (answered_once parse_g_t (holding one_way (codes "ab")) h.0 known.0 h.1 known.1) in
+    omega (arith, h.2, same, known.2)
