@@ -1,6 +1,7 @@
 //! Worked examples of what counts, files and sinks are said to do, each proved: what holds, and beside it what does not.
 ghost use Rattle.std.specs.Prelude.{◌≡◌, ◌-◌, ◌^◌, ℕ, [], ◌∷◌, Some, None, Ok, Err, Vec, codes};
 ghost use Rattle.std.specs.declared.alloc.Global.{Global};
+ghost use Rattle.ix_model.specs.Decoding.{decoded};
 ghost use Rattle.ix_edge.specs.declared.fault.Failed.{Failed};
 ghost use Rattle.ix_edge.specs.declared.fault.LoadFault.{LoadFault};
 ghost use Rattle.ix_edge.specs.Causes.{Rose};
@@ -37,4 +38,12 @@ pub fn puts_of_bytes()
     ensures not_all { ¬ (Puts {T = Unit {0}} {E = Failed} (Some (codes "a")) (Some (codes "ab")) (codes "bc") (Ok tt)) }
     ensures front { (failed : Failed) → Puts {T = Unit {0}} (Some (codes "a")) (Some (codes "ab")) (codes "bc") (Err failed) }
     ensures not_front { (failed : Failed) → ¬ (Puts {T = Unit {0}} (Some (codes "a")) (Some (codes "ac")) (codes "bc") (Err failed)) }
+{}
+
+/// One byte order mark at the front is dropped, a second is a character, and so is one behind another character.
+pub fn characters_of_bytes()
+    ensures plain { decoded (0x6E ∷ 0xC3 ∷ 0xA9 ∷ []) ≡ 0x6E ∷ 0xE9 ∷ [] }
+    ensures mark { decoded (0xEF ∷ 0xBB ∷ 0xBF ∷ 0x61 ∷ []) ≡ 0x61 ∷ [] }
+    ensures second { decoded (0xEF ∷ 0xBB ∷ 0xBF ∷ 0xEF ∷ 0xBB ∷ 0xBF ∷ []) ≡ 0xFEFF ∷ [] }
+    ensures later { decoded (0x61 ∷ 0xEF ∷ 0xBB ∷ 0xBF ∷ []) ≡ 0x61 ∷ 0xFEFF ∷ [] }
 {}

@@ -1,7 +1,9 @@
 ghost use Rattle.std.specs.Prelude.{◌≡◌, IfOk, IsTrue};
 ghost use Rattle.ix_edge.specs.Entries.{name_of, names_differ};
 
-use crate::{Entry, Failed, Files, LoadFault, MemFiles, MemSink, Sink, SureFiles};
+use crate::{
+    Entry, Failed, Files, LoadFault, MemFiles, MemSink, Sink, SureFiles, TextFault, decode, place,
+};
 use std::alloc::{AllocError, Global};
 use std::test::Fail;
 
@@ -87,4 +89,39 @@ fn puts_fail_by_number_and_for_room(rt: HostRuntime) -> Result<(), Fail> {
         assert_eq!(rt; sink.faults(), faults);
     }
     Ok(())
+}
+
+#[test]
+fn decodes_text_and_finds_where_it_ends(rt: HostRuntime) -> Result<(), Fail> {
+    let alloc = rt.alloc();
+    let chars = decode(alloc, "\u{FEFF}né".as_bytes())?;
+    assert_eq!(rt; chars.as_slice(), ['n', 'é'].as_slice());
+    for (bytes, valid) in [
+        (b"a\xC3".as_slice(), 1),
+        (b"\xEF\xBB\xBFa\xFF".as_slice(), 4),
+        (b"\xED\xA0\x80".as_slice(), 0),
+    ] {
+        let Err(fault) = decode(alloc, bytes) else {
+            panic!(rt; "it is no text");
+        };
+        assert_eq!(rt; fault, TextFault::NotUtf8 { valid });
+    }
+    Ok(())
+}
+
+#[test]
+fn counts_lines_and_columns(rt: HostRuntime) {
+    let text = ['a', '\n', 'b', '\r', '\n', '\n'];
+    for (offset, line, column) in [
+        (0, 1, 1),
+        (1, 1, 2),
+        (2, 2, 1),
+        (4, 2, 3),
+        (5, 3, 1),
+        (6, 4, 1),
+    ] {
+        let found = place(&text, offset);
+        assert_eq!(rt; found.line, line, "at {offset}");
+        assert_eq!(rt; found.column, column, "at {offset}");
+    }
 }
