@@ -1,1 +1,6 @@
+pub mod First
+pub mod Laws
+pub mod Scans
 pub mod Spans
+pub mod Strings
+pub mod Turns

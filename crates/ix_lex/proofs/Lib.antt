@@ -1,0 +1,5 @@
+pub mod Lexemes
+pub mod Quoting
+pub mod Scanning
+pub mod Standing
+pub mod Turning
