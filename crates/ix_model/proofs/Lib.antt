@@ -35,8 +35,8 @@ pub mod LowerOfLift
 pub mod Lowering
 pub mod Numbers
 pub mod Once
-pub mod Reaching
 pub mod OneAnswer
+pub mod Reaching
 pub mod Readers
 pub mod ReadingAccepts
 pub mod ReadingComplete
