@@ -8,7 +8,8 @@ use Rattle.ix_model.specs.Words.{NameAt}
 use Rattle.ix_model.specs.Spells.{escaped}
 use Rattle.ix_model.specs.Reading.Lexing.{Lexeme, word, quote, star, stars, plus, pluses, Read, word_of, digits_of, hex_of, quoted, begins, rest_of, next}
 use Rattle.ix_model.proofs.CharacterFacts.{in_all}
-use Rattle.ix_model.proofs.LexemeFacts.{word_read, digits_are, string_reads, IsStringRest, string_read, not_false}
+use Rattle.ix_model.proofs.Booleans.{not_false}
+use Rattle.ix_model.proofs.LexemeFacts.{word_read, digits_are, string_reads, IsStringRest, string_read}
 use Rattle.ix_model.proofs.TokenFacts.{token_read}
 use Rattle.ix_lex.specs.declared.token.Tok.{Tok}
 use Rattle.ix_lex.specs.declared.token.Tok.TheVariants as tok

@@ -1,5 +1,6 @@
 pub mod Lexemes
 pub mod Quoting
 pub mod Scanning
+pub mod SmallTokens
 pub mod Standing
 pub mod Turning

@@ -6,7 +6,7 @@ use Rattle.std.specs.Prelude.{Bool, true, false, ◌==◌, if◌then◌else◌, 
 use Rattle.ix_model.specs.Spells.{StringAt}
 use Rattle.ix_model.specs.Reading.Lexing as lexing
 use Rattle.ix_model.specs.Reading.Lexing.{Lexeme, Lexes, next, after, has_gap, mark_of, quoted}
-use Rattle.ix_model.proofs.Complete.{lexes_once, same_some}
+use Rattle.ix_model.proofs.ReadingComplete.{lexes_once, same_some}
 use Rattle.ix_model.proofs.LexemeFacts.{string_reads}
 use Rattle.ix_model.proofs.TokenFacts.{token_read}
 use Rattle.ix_lex.specs.declared.token.Tok.{Tok}

@@ -3,7 +3,7 @@ use Rattle.std.proofs.Common.{◌≡◌, refl, sym, ap, ◌∙◌, subst, ℕ, L
 use Rattle.std.proofs.lemmas.List.{append-nil}
 use Rattle.ix_model.specs.Reading.Lexing as lexing
 use Rattle.ix_model.specs.Reading.Lexing.{Lexeme, Lexes, next, after, has_gap}
-use Rattle.ix_model.proofs.Complete.{same_some}
+use Rattle.ix_model.proofs.ReadingComplete.{same_some}
 use Rattle.ix_model.proofs.SpacingFacts.{after_again}
 use Rattle.ix_lex.specs.declared.token.Token.{Token}
 use Rattle.ix_lex.specs.Spans.{AreTokens, lexeme_of}

@@ -1,3 +1,4 @@
+pub mod Examples
 pub mod First
 pub mod Laws
 pub mod Scans

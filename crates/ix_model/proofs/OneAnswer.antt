@@ -22,7 +22,7 @@ use Rattle.ix_model.specs.CommandLine.{parse, check}
 use Rattle.ix_model.specs.Outcome.{Outcome, no_form, grammar_too_long, grammar_not_utf8, no_grammar, too_deep, not_conforming, conforms, text_too_long, text_not_utf8, failed, refused, document}
 use Rattle.ix_model.specs.Answer.{grammar_limit, text_limit, depth_limit, IsText, HoldsGrammar, HoldsConforming, GrammarRefused, Parsed, TextAnswered, Answered}
 use Rattle.ix_model.proofs.Commands.{command_is_one}
-use Rattle.ix_model.proofs.Complete.{spelled_once}
+use Rattle.ix_model.proofs.ReadingComplete.{spelled_once}
 use Rattle.ix_model.proofs.Firsts.{in_order}
 use Rattle.ix_model.proofs.Once.{first_is_one}
 use Rattle.ix_model.proofs.Readings.{offset_is_one}

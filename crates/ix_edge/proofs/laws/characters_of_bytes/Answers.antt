@@ -1,4 +1,4 @@
-use Rattle.std.proofs.Common.{◌≡◌, ap, refl, ℕ, List, [], ◌∷◌}
+use Rattle.std.proofs.Common.{ap, refl, [], ◌∷◌}
 use Rattle.ix_model.specs.Decoding.{without_mark}
 use Rattle.std.proofs.lemmas.Str.{chars-encodes}
 use lib.Utf8.{encode}
