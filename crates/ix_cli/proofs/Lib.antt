@@ -1,9 +1,10 @@
 pub mod Alternatives
+pub mod LineForms
 pub mod Lists
 pub mod LoadedFiles
 pub mod OneReply
-pub mod PlainGrammars
 pub mod PlainTrees
+pub mod Refusing
 pub mod Replies
 pub mod SmallReplies
 pub mod Statuses

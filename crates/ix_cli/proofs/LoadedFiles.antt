@@ -1,9 +1,15 @@
 -- What a load says of the files that tell what they hold.
-use Rattle.std.proofs.Common.{◌≡◌, refl, sym, ◌∙◌, subst, ℕ, List, length, take, Option, None, Some, Ok, Vec, Global, IfSome, ◌≤◌, arith}
+use Rattle.std.proofs.Common.{◌≡◌, refl, sym, ap, ◌∙◌, subst, ℕ, List, length, take, Option, None, Some, Ok, Vec, Global, IfSome, ◌≤◌, ◌+◌, arith}
 use Rattle.std.proofs.lemmas.List.{length-take, take_all}
 use Rattle.ix_edge.specs.declared.fault.LoadFault.{LoadFault}
 use Rattle.ix_edge.specs.Told.{Told, held, Loads}
-use Rattle.ix_cli.specs.Loaded.{Holds}
+use Rattle.ix_model.specs.declared.grammar.Grammar.{Grammar}
+use Rattle.ix_engine.specs.declared.refusal.Refusal.{Refusal}
+use Rattle.ix_engine.specs.declared.refusal.Refusal.TheVariants as refusal
+use Rattle.ix_model.specs.Answer.{HoldsGrammar}
+use Rattle.ix_engine.specs.Compiled.{IsRefused}
+use Rattle.ix_cli.specs.Loaded.{Holds, IsGrammarFault}
+use Rattle.ix_cli.specs.Refusals.{of_refusal}
 
 module _ (name : List ℕ) (most : ℕ) (v : Vec ℕ Global) where
   -- a load that gave bytes gave those of a name that is there
@@ -16,20 +22,40 @@ module _ (name : List ℕ) (most : ℕ) (v : Vec ℕ Global) where
   loaded_is (Some files) l = loaded_from files (held files name) refl l
 
 -- a file that is found short was loaded whole
-pub short_whole : (bytes : List ℕ) → length (take 4097 bytes) ≤ 4096 → take 4097 bytes ≡ bytes
-short_whole bytes h = take_all 4097 bytes (omega (arith, h, length-take 4097 bytes))
+pub short_whole : (most : ℕ) (bytes : List ℕ) → length (take (most + 1) bytes) ≤ most → take (most + 1) bytes ≡ bytes
+short_whole most bytes h = take_all (most + 1) bytes (omega (arith, h, length-take (most + 1) bytes))
 
 -- what holds of the bytes of a name, where more follows from what was known of them
 pub holds_more : (told : Option Told) (name : List ℕ) (P Q : List ℕ → Type 0) → ((bytes : List ℕ) → P bytes → Q bytes) → Holds told name P → Holds told name Q
 holds_more None name P Q f h = tt
 holds_more (Some files) name P Q f h = (h.0, h.1, f h.0 h.2)
 
-module _ (Q : List ℕ → Type 0) (short : (bytes : List ℕ) → Q bytes → length bytes ≤ 4096) where
+module _ (most : ℕ) (Q : List ℕ → Type 0) (short : (bytes : List ℕ) → Q bytes → length bytes ≤ most) where
   -- what is true of short files alone, and of what was loaded, is true of the whole file
-  pub whole_is : (v bytes : List ℕ) → v ≡ take 4097 bytes → Q v → (bytes ≡ v) × Q bytes
+  pub whole_is : (v bytes : List ℕ) → v ≡ take (most + 1) bytes → Q v → (bytes ≡ v) × Q bytes
   whole_is v bytes e q =
-      let same : take 4097 bytes ≡ bytes = short_whole bytes (subst (λ (l : List ℕ). length l ≤ 4096) e (short v q)) in
+      let same : take (most + 1) bytes ≡ bytes = short_whole most bytes (subst (λ (l : List ℕ). length l ≤ most) e (short v q)) in
       (sym (e ∙ same), subst Q (e ∙ same) q)
 
-  pub whole_is_not : (v bytes : List ℕ) → v ≡ take 4097 bytes → ¬ (Q v) → ¬ (Q bytes)
-  whole_is_not v bytes e never q = never (subst Q (sym (e ∙ take_all 4097 bytes (omega (arith, short bytes q)))) q)
+  pub whole_is_not : (v bytes : List ℕ) → v ≡ take (most + 1) bytes → ¬ (Q v) → ¬ (Q bytes)
+  whole_is_not v bytes e never q = never (subst Q (sym (e ∙ take_all (most + 1) bytes (omega (arith, short bytes q)))) q)
+
+-- a grammar that was loaded is that of the whole file
+pub compiled_whole : (g : Grammar) (v bytes : List ℕ) → v ≡ take 1048577 bytes → HoldsGrammar v g → HoldsGrammar bytes g
+compiled_whole g v bytes e h = (whole_is 1048576 (λ b. HoldsGrammar b g) (λ b k. k.0.0) v bytes e h).1
+
+-- and so is why it is none
+pub refused_whole : (r : Refusal) (v bytes : List ℕ) → v ≡ take 1048577 bytes → IsRefused v r → IsRefused bytes r
+refused_whole refusal.FileTooLong v bytes e h = omega (arith, h, ap length e, length-take 1048577 bytes)
+refused_whole (refusal.NotUtf8 valid) v bytes e h = (whole_is 1048576 (λ b. IsRefused b (refusal.NotUtf8 valid)) (λ b k. k.0) v bytes e h).1
+refused_whole refusal.NotIxml v bytes e h = (whole_is 1048576 (λ b. IsRefused b refusal.NotIxml) (λ b k. k.0.0) v bytes e h).1
+refused_whole refusal.TooDeep v bytes e h = (whole_is 1048576 (λ b. IsRefused b refusal.TooDeep) (λ b k. k.0.0) v bytes e h).1
+refused_whole refusal.Memory v bytes e h = tt
+
+-- the answer that a refused grammar is has its cause
+pub refusal_caused : (told : Option Told) (old new : List ℕ → ℕ) (name : List ℕ) (r : Refusal) → Holds told name (λ bytes. IsRefused bytes r) → IsGrammarFault told old new name (of_refusal r)
+refusal_caused told old new name refusal.Memory h = tt
+refusal_caused told old new name refusal.FileTooLong h = ((λ e. cc e), h)
+refusal_caused told old new name (refusal.NotUtf8 valid) h = ((λ e. cc e), h)
+refusal_caused told old new name refusal.NotIxml h = ((λ e. cc e), h)
+refusal_caused told old new name refusal.TooDeep h = ((λ e. cc e), h)

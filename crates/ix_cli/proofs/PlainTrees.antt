@@ -22,8 +22,7 @@ use Rattle.ix_model.specs.Xml.{xml}
 use Rattle.ix_model.proofs.Forms.{derived_form, one_form, factor_form, out_lit}
 use Rattle.ix_model.proofs.Lines.{matches_once, plain_tree, plain_at}
 use Rattle.ix_model.proofs.Runs.{AreTexts, AreTexts-join, values-join, gives_all-texts}
-use Rattle.ix_cli.specs.Once.{HasPlainRule, IsOnly, DerivesAs, IsOnlyAlternative}
-use Rattle.ix_cli.specs.Reply.{IsOnlyDocument}
+use Rattle.ix_cli.specs.Once.{HasPlainRule, IsOnly, IsOnlyDocument, DerivesAs, IsOnlyAlternative}
 use Rattle.ix_cli.proofs.Alternatives.{plain_alt_at}
 use Rattle.ix_cli.proofs.Lists.{some_is}
 

@@ -1,20 +1,11 @@
--- Words, files and counts that the worked examples speak of.
+-- Files and counts that the worked examples speak of.
 use Rattle.std.specs.Prelude.{ℕ, List, [], ◌∷◌, false, codes, if◌then◌else◌}
 use Rattle.std.specs.Str.{bytes_eq}
 use Rattle.ix_edge.specs.Told.{Told}
 
-abbrev pub parse_g_t : List (List ℕ)
-parse_g_t = codes "parse" ∷ codes "g" ∷ codes "t" ∷ []
-
 -- files that hold a grammar under `g` and a text under `t`, and no other name
 abbrev pub holding : List ℕ → List ℕ → Told
 holding grammar text = record { entries = (codes "g", grammar) ∷ (codes "t", text) ∷ []; others_empty = false }
-
-abbrev pub one_way : List ℕ
-one_way = codes "S: \"a\"."
-
-abbrev pub two_ways : List ℕ
-two_ways = codes "S: \"a\"; \"a\"."
 
 -- no load has failed
 abbrev pub no_count : List ℕ → ℕ

@@ -5,7 +5,9 @@ pub mod Laws
 pub mod Lines
 pub mod Loaded
 pub mod Once
+pub mod PlainGrammar
 pub mod PlainText
+pub mod Refusals
 pub mod Refused
 pub mod Reply
 pub mod Says

@@ -1,10 +1,11 @@
 -- The line and the status of each answer that is no document.
-use Rattle.std.specs.Prelude.{ℕ, ◌==◌, List, [], ◌∷◌, ◌++◌, if◌then◌else◌, codes, string_bytes}
+use Rattle.std.specs.Prelude.{ℕ, List, [], ◌∷◌, ◌++◌, codes, string_bytes}
+use Rattle.ix_model.specs.Outcome.{Outcome, no_form, grammar_too_long, grammar_not_utf8, no_grammar, too_deep, message_of}
+use Rattle.ix_model.specs.Outcome as outcome
+use Rattle.ix_engine.specs.declared.refusal.Refusal.{Refusal}
+use Rattle.ix_engine.specs.declared.refusal.Refusal.TheVariants as refusal
 use Rattle.ix_cli.specs.declared.answer.Answer.{Answer}
 use Rattle.ix_cli.specs.declared.answer.Answer.TheVariants as answer
-
-abbrev pub words_line : List ℕ
-words_line = codes "ixml: use parse GRAMMAR TEXT [--workers N], check GRAMMAR or sample N [--workers N]\n"
 
 abbrev pub not_built_line : List ℕ
 not_built_line = codes "ixml: not built yet\n"
@@ -19,25 +20,33 @@ write_line = codes "ixml: cannot write\n"
 abbrev pub memory_line : List ℕ
 memory_line = codes "ixml: out of memory\n"
 
+-- of a grammar that is refused
+abbrev pub refusal_line : Refusal → List ℕ
+refusal_line refusal.FileTooLong = message_of grammar_too_long
+refusal_line (refusal.NotUtf8 valid) = message_of (grammar_not_utf8 valid)
+refusal_line refusal.NotIxml = message_of no_grammar
+refusal_line refusal.TooDeep = message_of too_deep
+refusal_line refusal.Memory = memory_line
+
+abbrev pub refusal_status : Refusal → ℕ
+refusal_status refusal.FileTooLong = outcome.status_of grammar_too_long
+refusal_status (refusal.NotUtf8 valid) = outcome.status_of (grammar_not_utf8 valid)
+refusal_status refusal.NotIxml = outcome.status_of no_grammar
+refusal_status refusal.TooDeep = outcome.status_of too_deep
+refusal_status refusal.Memory = 9
+
 abbrev pub line_of : Answer → List ℕ
-line_of answer.Words = words_line
+line_of answer.Words = message_of no_form
+line_of (answer.Grammar r) = refusal_line r
 line_of answer.NotBuilt = not_built_line
 line_of (answer.Read name) = read_line (string_bytes name)
 line_of answer.Write = write_line
 line_of answer.Memory = memory_line
 
 abbrev pub status_of : Answer → ℕ
-status_of answer.Words = 2
+status_of answer.Words = outcome.status_of no_form
+status_of (answer.Grammar r) = refusal_status r
 status_of answer.NotBuilt = 10
 status_of (answer.Read name) = 7
 status_of answer.Write = 8
 status_of answer.Memory = 9
-
--- the line that belongs to a status other than 7, whose line names a file; status 0 has none
-abbrev pub status_line : ℕ → List ℕ
-status_line status =
-    if status == 2 then words_line
-    else (if status == 8 then write_line
-    else (if status == 9 then memory_line
-    else (if status == 10 then not_built_line
-    else [])))

@@ -5,6 +5,9 @@ use Rattle.ix_model.specs.declared.grammar.Grammar.{Grammar}
 use Rattle.ix_model.specs.declared.grammar.Rule.{Rule}
 use Rattle.ix_model.specs.declared.grammar.Alt.{Alt}
 use Rattle.ix_model.specs.declared.grammar.Term.{Term}
+use Rattle.ix_model.specs.declared.state.State.TheVariants.{Single}
+use Rattle.ix_model.specs.Gives.{gives_root}
+use Rattle.ix_model.specs.Xml.{xml}
 use Rattle.ix_model.specs.Written.{IsAlternative}
 use Rattle.ix_model.specs.Trees.{Tree, Trees}
 use Rattle.ix_model.specs.Derives.{DerivesAll, IsDerivation}
@@ -34,3 +37,7 @@ module _ (g : Grammar) (s : List ℕ) where
   -- alternative n derives the text, and no other does
   abbrev pub IsOnlyAlternative : List Alt → ℕ → Type 0
   IsOnlyAlternative alts n = DerivesAs alts n × ((m : ℕ) → DerivesAs alts m → m ≡ n)
+
+  -- the bytes are the document of the one derivation
+  abbrev pub IsOnlyDocument : List ℕ → Type 0
+  IsOnlyDocument bytes = (d : Tree) × IsOnly d × (bytes ≡ xml (gives_root s g d) Single)

@@ -1,53 +1,73 @@
 -- What the command answers where nothing outside fails: the table of its answers.
-use Rattle.std.specs.Prelude.{◌≡◌, ◌⊎◌, ℕ, List, [], Some}
+use Rattle.std.specs.Prelude.{◌≡◌, ◌≢◌, ◌⊎◌, ℕ, List, [], Some}
 use Rattle.ix_model.specs.declared.grammar.Grammar.{Grammar}
 use Rattle.ix_model.specs.declared.state.State.TheVariants.{Single}
 use Rattle.ix_model.specs.Trees.{Tree}
-use Rattle.ix_model.specs.Gives.{gives_root}
+use Rattle.ix_model.specs.Gives.{Givens, gives_root}
 use Rattle.ix_model.specs.Xml.{xml}
+use Rattle.ix_model.specs.Answer.{HoldsGrammar}
+use Rattle.ix_model.specs.Outcome.{Outcome, no_form, document, message_of}
+use Rattle.ix_model.specs.Outcome as outcome
 use Rattle.ix_edge.specs.Told.{Told, held}
-use Rattle.ix_reader.specs.PlainFile.{SpellsPlain}
+use Rattle.ix_engine.specs.declared.refusal.Refusal.{Refusal}
+use Rattle.ix_engine.specs.declared.refusal.Refusal.TheVariants as refusal
+use Rattle.ix_engine.specs.Compiled.{IsRefused}
 use Rattle.ix_cli.specs.Form.{HasForm, HasSomeForm}
+use Rattle.ix_cli.specs.Lines.{not_built_line}
 use Rattle.ix_cli.specs.Once.{IsOnly}
+use Rattle.ix_cli.specs.PlainGrammar.{IsPlainGrammar}
 use Rattle.ix_cli.specs.PlainText.{IsPlainText}
+use Rattle.ix_cli.specs.Refusals.{outcome_of}
 
 pub data Reply : Type 0 where
-  -- the bytes of a document
-  document : List ℕ → Reply
-  -- the words have no form
-  no_form : Reply
+  -- what comes of words, grammar and text
+  reply : Outcome → Reply
   -- the grammar or the text is of a form that is not answered
   not_built : Reply
 
 abbrev pub status_of : Reply → ℕ
-status_of (document bytes) = 0
-status_of no_form = 2
+status_of (reply o) = outcome.status_of o
 status_of not_built = 10
 
 -- what is written to the output
 abbrev pub output_of : Reply → List ℕ
-output_of (document bytes) = bytes
-output_of no_form = []
+output_of (reply o) = outcome.output_of o
 output_of not_built = []
 
--- the document of the text's one derivation
-abbrev pub IsOnlyDocument : Grammar → List ℕ → List ℕ → Type 0
-IsOnlyDocument g s bytes = (d : Tree) × IsOnly g s d × (bytes ≡ xml (gives_root s g d) Single)
+-- what is said in a message
+abbrev pub line_of : Reply → List ℕ
+line_of (reply o) = message_of o
+line_of not_built = not_built_line
 
--- a text for a grammar that is answered: its document, or nothing where it is not answered or has not exactly one derivation
+-- A text for a plain grammar: the document of its one derivation, or nothing where the text is not answered or has not exactly
+-- one derivation.
 abbrev pub IsTextReply : Grammar → List ℕ → Reply → Type 0
-IsTextReply g text (document bytes) = IsPlainText text × IsOnlyDocument g text bytes
-IsTextReply g text no_form = ⊥
+IsTextReply g text (reply (document gs Single)) = IsPlainText text × ((d : Tree) × IsOnly g text d × (gs ≡ gives_root text g d))
 IsTextReply g text not_built = ¬ (IsPlainText text × ((d : Tree) × IsOnly g text d))
+IsTextReply g text _ = ⊥
 
--- the files hold a grammar and a text of these names
+-- A grammar that the files hold: it is not plain, or they hold a text too.
+abbrev pub HeldReply : Told → List ℕ → Grammar → Reply → Type 0
+HeldReply told text g r =
+    (¬ (IsPlainGrammar g) × (r ≡ not_built))
+    ⊎ (IsPlainGrammar g × ((s : List ℕ) × (held told text ≡ Some s) × IsTextReply g s r))
+
+-- The bytes of a grammar file: they are refused, or they hold a grammar.
+abbrev pub GrammarReply : Told → List ℕ → List ℕ → Reply → Type 0
+GrammarReply told text bytes r =
+    ((refused : Refusal) × (refused ≢ refusal.Memory) × IsRefused bytes refused × (r ≡ reply (outcome_of refused)))
+    ⊎ ((g : Grammar) × HoldsGrammar bytes g × HeldReply told text g r)
+
+-- The files hold a grammar of this name.
 abbrev pub IsFilesReply : Told → List ℕ → List ℕ → Reply → Type 0
-IsFilesReply told grammar text reply = (bytes : List ℕ) × (held told grammar ≡ Some bytes) × (
-    (((g : Grammar) → ¬ (SpellsPlain bytes g)) × (reply ≡ not_built))
-    ⊎ ((g : Grammar) × SpellsPlain bytes g × (s : List ℕ) × (held told text ≡ Some s) × IsTextReply g s reply))
+IsFilesReply told grammar text r = (bytes : List ℕ) × (held told grammar ≡ Some bytes) × GrammarReply told text bytes r
 
 -- the words and the files
 abbrev pub IsReply : List (List ℕ) → Told → Reply → Type 0
-IsReply words told reply =
-    ((¬ (HasSomeForm words)) × (reply ≡ no_form))
-    ⊎ ((grammar : List ℕ) × (text : List ℕ) × HasForm words grammar text × IsFilesReply told grammar text reply)
+IsReply words told r =
+    ((¬ (HasSomeForm words)) × (r ≡ reply no_form))
+    ⊎ ((grammar : List ℕ) × (text : List ℕ) × HasForm words grammar text × IsFilesReply told grammar text r)
+
+-- the table's answer is a document of one derivation, and these are its bytes
+abbrev pub HasDocument : List (List ℕ) → Told → List ℕ → Type 0
+HasDocument words told bytes = (gs : Givens) × IsReply words told (reply (document gs Single)) × (bytes ≡ xml gs Single)

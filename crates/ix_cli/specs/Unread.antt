@@ -3,16 +3,17 @@ use Rattle.std.specs.Prelude.{◌≡◌, ◌⊎◌, ℕ, List, Option}
 use Rattle.ix_model.specs.declared.grammar.Grammar.{Grammar}
 use Rattle.ix_edge.specs.Causes.{Rose}
 use Rattle.ix_edge.specs.Told.{Told}
-use Rattle.ix_reader.specs.PlainFile.{SpellsPlain}
+use Rattle.ix_model.specs.Answer.{HoldsGrammar}
 use Rattle.ix_cli.specs.Form.{HasForm}
 use Rattle.ix_cli.specs.Loaded.{Holds}
+use Rattle.ix_cli.specs.PlainGrammar.{IsPlainGrammar}
 
 -- where the files tell it, the name holds a grammar that is answered
-abbrev pub HoldsGrammar : Option Told → List ℕ → Type 0
-HoldsGrammar told grammar = Holds told grammar (λ bytes. (g : Grammar) × SpellsPlain bytes g)
+abbrev pub HoldsPlain : Option Told → List ℕ → Type 0
+HoldsPlain told grammar = Holds told grammar (λ bytes. (g : Grammar) × HoldsGrammar bytes g × IsPlainGrammar g)
 
 -- the count of this file's name rose, and the file was the next to be read
 abbrev pub IsUnread : List (List ℕ) → Option Told → (List ℕ → ℕ) → (List ℕ → ℕ) → List ℕ → Type 0
 IsUnread words told old new name = (grammar : List ℕ) × (text : List ℕ) × HasForm words grammar text
     × Rose (old name) (new name)
-    × ((name ≡ grammar) ⊎ ((name ≡ text) × HoldsGrammar told grammar))
+    × ((name ≡ grammar) ⊎ ((name ≡ text) × HoldsPlain told grammar))

@@ -1,4 +1,4 @@
-ghost use Rattle.std.specs.Prelude.{◌≡◌, ◌++◌, [], IfOk, OnOk, codes, encode_utf8, string_bytes};
+ghost use Rattle.std.specs.Prelude.{◌≡◌, ◌<◌, ◌++◌, [], length, IfOk, OnOk, codes, encode_utf8, string_bytes};
 ghost use Rattle.std.specs.List.{flat_map};
 ghost use Rattle.ix_model.specs.declared.state.State.TheVariants.{Single};
 ghost use Rattle.ix_model.specs.Gives.{element, nothing, followed, put_run};
@@ -8,7 +8,8 @@ use std::alloc::{AllocError, Global};
 
 /// The document of one element with this name and these characters.
 pub fn document_of(alloc: Global, name: &[char], text: &[char]) -> Result<String, AllocError>
-    ensures { IfOk result (λ document. string_bytes document ≡ xml (followed (element name.now (put_run text.now nothing)) nothing) Single) }
+    ensures some { IfOk result (λ document. 0 < length (string_bytes document)) }
+    ensures ok { IfOk result (λ document. string_bytes document ≡ xml (followed (element name.now (put_run text.now nothing)) nothing) Single) }
 {
     let name = name_text(alloc, name)?;
     let content = content_text(alloc, text)?;

@@ -2,12 +2,14 @@
 //! empty.
 ghost use Rattle.std.specs.Prelude.{[], ◌∷◌, Some, codes};
 ghost use Rattle.ix_cli.specs.Answered.{IsAnswered, IsCutOff};
-ghost use Rattle.ix_cli.specs.Examples.{parse_g_t, holding, one_way, two_ways, raised, no_count};
+ghost use Rattle.ix_cli.specs.Examples.{holding, raised, no_count};
+ghost use Rattle.ix_model.specs.ExampleAnswers.{parse_g_t, one_way, both_ways};
 ghost use Rattle.ix_cli.specs.Form.{HasForm, HasSomeForm};
 ghost use Rattle.ix_cli.specs.Laws.{ReplyIsOne};
 ghost use Rattle.ix_cli.specs.Lines.{memory_line};
 ghost use Rattle.ix_cli.specs.PlainText.{IsPlainText};
-ghost use Rattle.ix_cli.specs.Reply.{document, no_form, not_built, IsReply};
+ghost use Rattle.ix_cli.specs.Reply.{reply, not_built, IsReply, HasDocument};
+ghost use Rattle.ix_model.specs.Outcome.{no_form, no_grammar};
 ghost use Rattle.ix_cli.specs.Says.{Says};
 ghost use Rattle.ix_cli.specs.Unread.{IsUnread};
 
@@ -33,16 +35,17 @@ pub fn texts_that_are_answered()
 
 /// `S: "a".` on `a` is answered by the document `<S>a</S>`, and by nothing else.
 pub fn one_literal_is_answered()
-    ensures answer { IsReply parse_g_t (holding one_way (codes "a")) (document (codes "<S>a</S>\n")) }
+    ensures answer { HasDocument parse_g_t (holding one_way (codes "a")) (codes "<S>a</S>\n") }
     ensures not_refused { ¬ (IsReply parse_g_t (holding one_way (codes "a")) not_built) }
-    ensures not_cut_off { ¬ (IsReply parse_g_t (holding one_way (codes "a")) (document (codes "<S>a</S>"))) }
+    ensures not_cut_off { ¬ (HasDocument parse_g_t (holding one_way (codes "a")) (codes "<S>a</S>")) }
 {}
 
-/// `S: "a".` on `b` has no derivation, and `S: "a"; "a".` on `a` has two: neither is answered.
+/// `S: "a".` on `b` has no derivation, and `S: "a"; "a".` on `a` has two: neither is answered. An empty file is no grammar.
 pub fn texts_that_are_refused()
     ensures none { IsReply parse_g_t (holding one_way (codes "b")) not_built }
-    ensures two { IsReply parse_g_t (holding two_ways (codes "a")) not_built }
-    ensures no_words { IsReply [] (holding one_way (codes "a")) no_form }
+    ensures two { IsReply parse_g_t (holding both_ways (codes "a")) not_built }
+    ensures no_grammar { IsReply parse_g_t (holding [] (codes "a")) (reply no_grammar) }
+    ensures no_words { IsReply [] (holding one_way (codes "a")) (reply no_form) }
     ensures not_words { ¬ (IsReply [] (holding one_way (codes "a")) not_built) }
 {}
 
@@ -56,9 +59,9 @@ pub fn files_that_are_unread()
 
 /// Status and output are those of the table, and what a fault of the output leaves is the front of its document.
 pub fn outputs_of_the_table()
-    ensures answered { IsAnswered parse_g_t (Some (holding one_way (codes "a"))) (Some []) (Some (codes "<S>a</S>\n")) 0 }
-    ensures not_shorter { ¬ (IsAnswered parse_g_t (Some (holding one_way (codes "a"))) (Some []) (Some (codes "<S>a</S>")) 0) }
-    ensures not_refused { ¬ (IsAnswered parse_g_t (Some (holding one_way (codes "a"))) (Some []) (Some []) 10) }
+    ensures answered { IsAnswered parse_g_t (Some (holding one_way (codes "a"))) (Some []) (Some (codes "<S>a</S>\n")) 0 (Says (Some []) (Some []) 0 0) }
+    ensures not_shorter { ¬ (IsAnswered parse_g_t (Some (holding one_way (codes "a"))) (Some []) (Some (codes "<S>a</S>")) 0 (Says (Some []) (Some []) 0 0)) }
+    ensures not_refused { ¬ (IsAnswered parse_g_t (Some (holding one_way (codes "a"))) (Some []) (Some []) 10 (Says (Some []) (Some []) 0 0)) }
     ensures front { IsCutOff parse_g_t (Some (holding one_way (codes "a"))) (Some []) (Some (codes "<S>a")) }
     ensures not_front { ¬ (IsCutOff parse_g_t (Some (holding one_way (codes "a"))) (Some []) (Some (codes "S"))) }
 {}

@@ -1,11 +1,11 @@
-ghost use Rattle.std.specs.Prelude.{◌≡◌, ◌≢◌, ◌⊎◌, ◌≤◌, ℕ, List, IfOk, IfErr, IfSome, map, string_bytes};
+ghost use Rattle.std.specs.Prelude.{◌≡◌, ◌≢◌, ◌⊎◌, ◌≤◌, ◌<◌, ℕ, List, length, IfOk, IfErr, IfSome, map, string_bytes};
 ghost use Rattle.std.specs.Io.KnownBytes.{Keeps};
 ghost use Rattle.ix_edge.specs.Causes.{Rose};
-ghost use Rattle.ix_cli.specs.Answered.{IsAnswered, IsCutOff, IsStatus};
+ghost use Rattle.ix_cli.specs.Answered.{IsAnswered, IsCutOff, IsMessage};
 ghost use Rattle.ix_cli.specs.Form.{HasForm, HasSomeForm};
-ghost use Rattle.ix_cli.specs.Lines.{read_line, status_line};
+ghost use Rattle.ix_cli.specs.Lines.{read_line};
 ghost use Rattle.ix_cli.specs.Refused.{IsRefused};
-ghost use Rattle.ix_cli.specs.Reply.{IsReply, document as document_reply};
+ghost use Rattle.ix_cli.specs.Reply.{HasDocument};
 ghost use Rattle.ix_cli.specs.Says.{Says};
 ghost use Rattle.ix_cli.specs.Unread.{IsUnread};
 ghost use Rattle.ix_cli.specs.Written.{IsWritten};
@@ -20,9 +20,11 @@ use std::alloc::Global;
 /// Runs the command that the words after the program's name spell, alone and on one thread, and gives its exit status.
 ///
 /// The document goes to `out`, and one line to `msg` where there is none. The status is 0 at a document, 2 where the
-/// words have no form, 7 where a file could not be read, 8 where the document could not be written, 9 where memory
-/// ran out, and 10 where the grammar or the text is of a form that is not answered, or the text has not exactly one
-/// derivation. Want of memory may come at any call; nothing is written to `out` then. A fault of `msg` changes nothing.
+/// words have no form, 3 where the grammar is refused (G01, G08, G09), 5 where it is not UTF-8, 7 where a file could not
+/// be read, 8 where the document could not be written, 9 where memory ran out, and 10 where the grammar or the text is
+/// of a form that is not answered, or the text has not exactly one derivation. Want of memory may come at any call;
+/// nothing is written to `out` then. A fault of `msg` changes nothing.
+#[tactic(auto, using(crate::proofs::Refusing::refused_answered))]
 pub fn run_alone<F: Files, O: Sink, M: Sink>(
     alloc: Global,
     words: &[String],
@@ -30,16 +32,16 @@ pub fn run_alone<F: Files, O: Sink, M: Sink>(
     out: &mut O,
     msg: &mut M,
 ) -> u8
-    ensures statuses { IsStatus result }
-
-    // Status and output are those of the table of answers.
+    // Status, output and message are those of the table of answers.
     ensures answered { result ≢ 7 → result ≢ 8 → result ≢ 9 →
-        IsAnswered (map string_bytes words.now) (F.told files.old) (O.written out.old) (O.written out.new) result }
+        IsAnswered (map string_bytes words.now) (F.told files.old) (O.written out.old) (O.written out.new) result
+        (Says (M.written msg.old) (M.written msg.new) (M.faults msg.old) (M.faults msg.new)) }
     ensures complete { (grammar text : List ℕ) → HasForm (map string_bytes words.now) grammar text →
         ¬ (Rose (F.faults files.old grammar) (F.faults files.new grammar)) →
         ¬ (Rose (F.faults files.old text) (F.faults files.new text)) →
         ¬ (Rose (O.faults out.old) (O.faults out.new)) → result ≢ 9 →
-        IsAnswered (map string_bytes words.now) (F.told files.old) (O.written out.old) (O.written out.new) result }
+        IsAnswered (map string_bytes words.now) (F.told files.old) (O.written out.old) (O.written out.new) result
+        (Says (M.written msg.old) (M.written msg.new) (M.faults msg.old) (M.faults msg.new)) }
 
     // The causes of the other answers.
     ensures no_form { ¬ (HasSomeForm (map string_bytes words.now)) → (result ≡ 2) ⊎ (result ≡ 9) }
@@ -52,9 +54,8 @@ pub fn run_alone<F: Files, O: Sink, M: Sink>(
         IsCutOff (map string_bytes words.now) (F.told files.old) (O.written out.old) (O.written out.new) }
     ensures nothing { result ≢ 0 → result ≢ 8 → Keeps (O.written out.old) (O.written out.new) }
 
-    // The line is that of the status.
-    ensures message { result ≢ 7 →
-        Says (M.written msg.old) (M.written msg.new) (M.faults msg.old) (M.faults msg.new) (status_line result) }
+    // The message is the line of an answer that has this status.
+    ensures message { IsMessage result (Says (M.written msg.old) (M.written msg.new) (M.faults msg.old) (M.faults msg.new)) }
 
     ensures same { F.told files.new ≡ F.told files.old }
     ensures later { (name : List ℕ) → F.faults files.old name ≤ F.faults files.new name }
@@ -68,7 +69,8 @@ pub fn run_alone<F: Files, O: Sink, M: Sink>(
 // The document of the files that the words name.
 fn document<F: Files>(alloc: Global, words: &[String], files: &mut F) -> Result<String, Answer>
     ensures form { IfOk result (λ _. HasSomeForm (map string_bytes words.now)) }
-    ensures ok { IfOk result (λ text. IfSome (F.told files.old) (λ told. IsReply (map string_bytes words.now) told (document_reply (string_bytes text)))) }
+    ensures some { IfOk result (λ text. 0 < length (string_bytes text)) }
+    ensures ok { IfOk result (λ text. IfSome (F.told files.old) (λ told. HasDocument (map string_bytes words.now) told (string_bytes text))) }
     ensures err { IfErr result (IsRefused (map string_bytes words.now) (F.told files.old) (F.faults files.old) (F.faults files.new)) }
     ensures same { F.told files.new ≡ F.told files.old }
     ensures later { (name : List ℕ) → F.faults files.old name ≤ F.faults files.new name }

@@ -70,6 +70,40 @@ fn answers_a_grammar_and_a_text(rt: HostRuntime) -> Result<(), Fail> {
         ("S: \"a\".", "", 10, b"".as_slice(), NOT_BUILT),
         ("S: \"a\".", "a\n", 10, b"".as_slice(), NOT_BUILT),
         ("S: S; \"a\".", "a", 10, b"".as_slice(), NOT_BUILT),
+        ("S: .", "", 0, b"<S/>\n".as_slice(), b"".as_slice()),
+        (
+            "{a {b} c} S: \"a\". {end}",
+            "a",
+            0,
+            b"<S>a</S>\n".as_slice(),
+            b"".as_slice(),
+        ),
+        (
+            "S='it''s'|\"\",'x'.",
+            "it's",
+            0,
+            b"<S>it's</S>\n".as_slice(),
+            b"".as_slice(),
+        ),
+        (
+            "ixml version \"1.0\". S: \"a\".",
+            "a",
+            10,
+            b"".as_slice(),
+            NOT_BUILT,
+        ),
+        ("^S: \"a\".", "a", 10, b"".as_slice(), NOT_BUILT),
+        ("S: ^\"a\".", "a", 10, b"".as_slice(), NOT_BUILT),
+        ("S: #61.", "a", 10, b"".as_slice(), NOT_BUILT),
+        ("S: \"a\"?.", "a", 10, b"".as_slice(), NOT_BUILT),
+        ("S1: \"a\".", "a", 10, b"".as_slice(), NOT_BUILT),
+        (
+            "S: a+++\"x\". a: \"y\".",
+            "y",
+            10,
+            b"".as_slice(),
+            NOT_BUILT,
+        ),
     ] {
         let mut files = SureFiles::new(entries(alloc, grammar.as_bytes(), text.as_bytes())?);
         let mut out = MemSink::new(alloc, 64, Vec::new(alloc), 0)?;
@@ -79,6 +113,81 @@ fn answers_a_grammar_and_a_text(rt: HostRuntime) -> Result<(), Fail> {
         assert_eq!(rt; got, status, "{grammar} on {text}");
         assert_eq!(rt; out.bytes(), written, "{grammar} on {text}");
         assert_eq!(rt; msg.bytes(), line, "{grammar} on {text}");
+    }
+    Ok(())
+}
+
+const NOT_IXML: &[u8] = b"ixml: G01: not an ixml grammar\n";
+
+// The status for a grammar, and the message.
+fn refusal(alloc: Global, grammar: &[u8]) -> Result<(u8, Vec<u8>), AllocError> {
+    let mut files = SureFiles::new(entries(alloc, grammar, b"a")?);
+    let mut out = MemSink::new(alloc, 64, Vec::new(alloc), 0)?;
+    let mut msg = MemSink::new(alloc, 128, Vec::new(alloc), 0)?;
+    let words = words(alloc, "parse g t")?;
+    let status = run_alone(alloc, &words, &mut files, &mut out, &mut msg);
+    Ok((status, Vec::from_slice(alloc, msg.bytes())?))
+}
+
+#[test]
+fn refuses_what_is_no_grammar(rt: HostRuntime) -> Result<(), Fail> {
+    let alloc = rt.alloc();
+    for (grammar, status, line) in [
+        (b"".as_slice(), 3, NOT_IXML),
+        (b"S: [LC].".as_slice(), 3, NOT_IXML),
+        (b"S: \"a\",.".as_slice(), 3, NOT_IXML),
+        (b"{a {b} c} S: \"a\". {end".as_slice(), 3, NOT_IXML),
+        (b"S: a + +\"x\". a: \"y\".".as_slice(), 3, NOT_IXML),
+        (
+            b"\xEF\xBB\xBFS: \"\xC3\".".as_slice(),
+            5,
+            b"ixml: grammar is not UTF-8 after 7 bytes\n".as_slice(),
+        ),
+    ] {
+        let (got, message) = refusal(alloc, grammar)?;
+        assert_eq!(rt; got, status);
+        assert_eq!(rt; message.as_slice(), line);
+    }
+    Ok(())
+}
+
+// A literal among so many parentheses.
+fn nested(alloc: Global, depth: usize) -> Result<Vec<u8>, AllocError> {
+    let mut grammar = Vec::from_slice(alloc, b"S: ")?;
+    grammar.extend_from_slice(&vec![in alloc; b'('; depth]?)?;
+    grammar.extend_from_slice(b"\"a\"")?;
+    grammar.extend_from_slice(&vec![in alloc; b')'; depth]?)?;
+    grammar.push(b'.')?;
+    Ok(grammar)
+}
+
+// A grammar that spaces make so long.
+fn padded(alloc: Global, size: usize) -> Result<Vec<u8>, AllocError> {
+    let mut grammar = Vec::from_slice(alloc, b"S: \"a\".")?;
+    grammar.resize(size, b' ')?;
+    Ok(grammar)
+}
+
+#[test]
+fn refuses_grammars_by_depth_and_length(rt: HostRuntime) -> Result<(), Fail> {
+    let alloc = rt.alloc();
+    for (grammar, status, line) in [
+        (nested(alloc, 100)?, 10, NOT_BUILT),
+        (
+            nested(alloc, 101)?,
+            3,
+            b"ixml: G09: more than 100 open parentheses\n".as_slice(),
+        ),
+        (padded(alloc, 1_048_576)?, 0, b"".as_slice()),
+        (
+            padded(alloc, 1_048_577)?,
+            3,
+            b"ixml: G08: grammar longer than 1048576 bytes\n".as_slice(),
+        ),
+    ] {
+        let (got, message) = refusal(alloc, &grammar)?;
+        assert_eq!(rt; got, status);
+        assert_eq!(rt; message.as_slice(), line);
     }
     Ok(())
 }

@@ -1,3 +1,4 @@
+pub mod Decoded
 pub mod Held
 pub mod Named
 pub mod Raised

@@ -1,4 +1,4 @@
-ghost use Rattle.std.specs.Prelude.{◌≡◌, ℕ, IfOk, IsUtf8, Err};
+ghost use Rattle.std.specs.Prelude.{◌≡◌, ◌≤◌, ℕ, length, IfOk, IsUtf8, Err};
 ghost use Rattle.std.specs.Str.{chars};
 ghost use Rattle.std.specs.Str.Lossy.{utf8_valid_len};
 ghost use Rattle.ix_model.specs.Decoding.{decoded};
@@ -12,6 +12,7 @@ use std::alloc::{AllocError, Global};
 pub fn decode(alloc: Global, bytes: &[u8]) -> Result<Vec<char>, TextFault>
     ensures text { IfOk result (λ _. IsUtf8 bytes.now) }
     ensures ok { IfOk result (λ v. v.items ≡ decoded bytes.now) }
+    ensures few { IfOk result (λ v. length v.items ≤ length bytes.now) }
     ensures not_utf8 { (valid : ℕ) → result ≡ Err (TextFault.NotUtf8 valid) → ¬ (IsUtf8 bytes.now) × (valid ≡ utf8_valid_len bytes.now) }
 {
     match str::from_utf8(bytes) {

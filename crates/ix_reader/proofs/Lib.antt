@@ -1,5 +1,7 @@
-pub mod Answer
-pub mod Examples
-pub mod Found
-pub mod Spelled
-pub mod Values
+pub mod Folded
+pub mod Measured
+pub mod Measures
+pub mod Outlines
+pub mod Turns
+pub mod Views
+pub mod WhatIsRead

@@ -1,3 +1,4 @@
-pub mod Laws
-pub mod PlainFile
-pub mod Steps
+pub mod Outline
+pub mod Parentheses
+pub mod Size
+pub mod Views

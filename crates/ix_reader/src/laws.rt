@@ -1,20 +1,11 @@
-//! Laws of the definitions.
+//! Laws of the definitions. The contract is the law, and the body is empty.
 
-ghost use Rattle.ix_reader.specs.Laws.{SpellsOnce, SpellsFewBytes, SpellsOneLetter, SpellsWithLineFeed, NeedsTheSpace};
+ghost use Rattle.std.specs.Prelude.{◌≡◌};
+ghost use Rattle.ix_model.specs.ExampleSpellings.{forms, stop_in_name};
+ghost use Rattle.ix_reader.specs.Size.{size};
 
-/// The bytes of a file spell at most one grammar.
-pub fn one_value()
-    ensures { SpellsOnce }
-{}
-
-/// What spells a grammar has at most 4,096 bytes.
-pub fn size_is_bounded()
-    ensures { SpellsFewBytes }
-{}
-
-/// `S: "a".` is spelled, with a line feed and without, and `S:"a".` spells nothing.
-pub fn worked_examples()
-    ensures without_line_feed { SpellsOneLetter }
-    ensures with_line_feed { SpellsWithLineFeed }
-    ensures no_space { NeedsTheSpace }
+/// How much stands in a grammar: rules, alternatives, terms and separators.
+pub fn worked_sizes()
+    ensures two_rules { size stop_in_name ≡ 6 }
+    ensures all_forms { size forms ≡ 17 }
 {}

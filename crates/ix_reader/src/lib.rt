@@ -1,14 +1,21 @@
-//! Grammar files of the plain form, read to the grammar that they spell.
+//! Grammar files, read to the grammar that they spell.
 #![tactic(auto)]
 
-mod fault;
+mod factors;
 mod laws;
-mod plain;
-mod reading;
+mod lexemes;
+mod machine;
+mod outline;
+mod read_fault;
+mod reader;
+mod rules;
+mod sets;
+mod step;
+mod terms;
 
-pub use fault::PlainFault;
-pub use laws::{one_value, size_is_bounded, worked_examples};
-pub use plain::read_plain;
+pub use laws::worked_sizes;
+pub use read_fault::ReadFault;
+pub use reader::read;
 
 #[cfg(test)]
 mod tests;

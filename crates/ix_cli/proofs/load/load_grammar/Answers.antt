@@ -1,21 +1,37 @@
-use Rattle.std.proofs.Common.{ap, ◌∙◌, ◌≡◌, take, Err}
-use Rattle.ix_reader.specs.PlainFile.{SpellsPlain}
-use Rattle.ix_cli.specs.Loaded.{SpellsNone}
-use Rattle.ix_cli.proofs.LoadedFiles.{holds_more, whole_is, whole_is_not}
-use Rattle.ix_cli.proofs.PlainGrammars.{plain_rule, spells_few}
+use Rattle.std.proofs.Common.{◌≡◌, ◌∙◌, take}
+use Rattle.ix_model.specs.Answer.{HoldsGrammar}
+use Rattle.ix_engine.specs.Compiled.{IsRefused}
+use Rattle.ix_cli.specs.Loaded.{Holds, IsGrammarFault}
+use Rattle.ix_cli.specs.Refusals.{of_refusal}
+use Rattle.ix_cli.proofs.LoadedFiles.{holds_more, compiled_whole, refused_whole, refusal_caused}
+use Rattle.ix_cli.proofs.Replies.{handed_on}
 use Rattle.ix_cli.proofs.load.load_grammar.Goals as goal
 
-pub returns-in-Ok-clause-plain : goal.returns-in-Ok-clause-plain
-returns-in-Ok-clause-plain g c = plain_rule c.deref.result.now c.in-Ok.grammar c.in-Ok.ensures.ok
+pub returns-in_err-grammar-clause-err : goal.returns-in_err-grammar-clause-err
+returns-in_err-grammar-clause-err g c =
+    let told = g.F.Files.told c.args.files.now in
+    let name = c.args.name.now in
+    let refused : Holds told name (λ bytes. IsRefused bytes c.in_err-grammar.field-0.0) =
+    holds_more told name (λ bytes. c.in_ok-bytes.bytes.items ≡ take 1048577 bytes) (λ bytes. IsRefused bytes c.in_err-grammar.field-0.0)
+    (λ bytes e. refused_whole c.in_err-grammar.field-0.0 c.deref.result.now bytes (c.deref.ensures.value ∙ e) c.in_err-grammar.ensures.err)
+    c.in_ok-bytes.ensures.ok in
+    handed_on c.from_residual-in_err-grammar.result (IsGrammarFault told (g.F.Files.faults c.args.files.now) (g.F.Files.faults c.load.new.files) name)
+    (of_refusal c.in_err-grammar.field-0.0) c.from_residual-in_err-grammar.ensures.1
+    (refusal_caused told (g.F.Files.faults c.args.files.now) (g.F.Files.faults c.load.new.files) name c.in_err-grammar.field-0.0 refused)
 
-pub returns-in-Ok-clause-ok : goal.returns-in-Ok-clause-ok
-returns-in-Ok-clause-ok g c =
-    holds_more (g.F.Files.told c.args.files.now) c.args.name.now (λ bytes. c.in_ok-bytes.bytes.items ≡ take 4097 bytes) (λ bytes. SpellsPlain bytes c.in-Ok.grammar)
-    (λ bytes e. (whole_is (λ b. SpellsPlain b c.in-Ok.grammar) (λ b s. spells_few b _ s) c.deref.result.now bytes (c.deref.ensures.value ∙ e) c.in-Ok.ensures.ok).1)
+pub returns-then-not-is_plain_grammar-clause-err :
+    goal.returns-then-not-is_plain_grammar-clause-err
+returns-then-not-is_plain_grammar-clause-err g c =
+    holds_more (g.F.Files.told c.args.files.now) c.args.name.now (λ bytes. c.in_ok-bytes.bytes.items ≡ take 1048577 bytes) _
+    (λ bytes e. (
+      c.in_ok-grammar.grammar,
+      compiled_whole c.in_ok-grammar.grammar c.deref.result.now bytes (c.deref.ensures.value ∙ e) c.in_ok-grammar.ensures.ok,
+      λ p. absurd (cc (c.is_plain_grammar.ensures.1 p, c.if-not-is_plain_grammar.true)),
+    ))
     c.in_ok-bytes.ensures.ok
 
-pub returns-in-Err-NotBuilt-clause-err : goal.returns-in-Err-NotBuilt-clause-err
-returns-in-Err-NotBuilt-clause-err g c =
-    holds_more (g.F.Files.told c.args.files.now) c.args.name.now (λ bytes. c.in_ok-bytes.bytes.items ≡ take 4097 bytes) SpellsNone
-    (λ bytes e h s. whole_is_not (λ b. SpellsPlain b h) (λ b t. spells_few b _ t) c.deref.result.now bytes (c.deref.ensures.value ∙ e) (λ t. c.read_plain.ensures.not_built (c.in-Err-NotBuilt.is ∙ ap Err c.in-Err-NotBuilt.field-0-is) h t) s)
+pub returns-clause-ok : goal.returns-clause-ok
+returns-clause-ok g c =
+    holds_more (g.F.Files.told c.args.files.now) c.args.name.now (λ bytes. c.in_ok-bytes.bytes.items ≡ take 1048577 bytes) (λ bytes. HoldsGrammar bytes c.in_ok-grammar.grammar)
+    (λ bytes e. compiled_whole c.in_ok-grammar.grammar c.deref.result.now bytes (c.deref.ensures.value ∙ e) c.in_ok-grammar.ensures.ok)
     c.in_ok-bytes.ensures.ok

@@ -12,20 +12,20 @@ pub returns-then-not-is_derived_once-clause-not_built :
 returns-then-not-is_derived_once-clause-not_built c = λ _ d only.
     let g = c.args.grammar.now in
     let s = c.args.text.now in
-    let first : c.index-as_slice-0.result ≡ c.requires.plain.0 =
-    c.index-as_slice-0.is ∙ ap (λ rules. get_or rules 0 c.index-as_slice-0.result) (c.as_slice.ensures ∙ c.requires.plain.1.0) in
+    let first : c.index-as_slice-0.result ≡ c.requires.plain.1.0 =
+    c.index-as_slice-0.is ∙ ap (λ rules. get_or rules 0 c.index-as_slice-0.result) (c.as_slice.ensures ∙ c.requires.plain.1.1.0) in
     let alts = c.as_slice-2.ensures ∙ ap (λ (r : Rule). r.alts) first in
-    let one = only_alternative g s c.requires.plain.0 c.requires.plain.1 d only in
+    let one = only_alternative g s c.requires.plain.1.0 c.requires.plain.1.1 d only in
     c.is_derived_once.ensures.not_once c.if-not-is_derived_once.true g one.0 (subst (λ xs. IsOnlyAlternative g s xs one.0) (sym alts) one.1)
 
 pub returns-clause-ok : goal.returns-clause-ok
 returns-clause-ok c =
     let g = c.args.grammar.now in
     let s = c.args.text.now in
-    let first : c.index-as_slice-0.result ≡ c.requires.plain.0 =
-    c.index-as_slice-0.is ∙ ap (λ rules. get_or rules 0 c.index-as_slice-0.result) (c.as_slice.ensures ∙ c.requires.plain.1.0) in
+    let first : c.index-as_slice-0.result ≡ c.requires.plain.1.0 =
+    c.index-as_slice-0.is ∙ ap (λ rules. get_or rules 0 c.index-as_slice-0.result) (c.as_slice.ensures ∙ c.requires.plain.1.1.0) in
     let alts = c.as_slice-2.ensures ∙ ap (λ (r : Rule). r.alts) first in
     let name = c.as_slice-3.ensures ∙ ap (λ (r : Rule). r.name) first in
     let one = c.is_derived_once.ensures.once c.if-not-is_derived_once.false g in
-    only_document_is g s c.requires.plain.0 c.requires.plain.1 one.0 (subst (λ xs. IsOnlyAlternative g s xs one.0) alts one.1) _
-    (c.in_ok-document_of.ensures ∙ ap (λ n. xml (followed (element n (put_run s nothing)) nothing) Single) name)
+    only_document_is g s c.requires.plain.1.0 c.requires.plain.1.1 one.0 (subst (λ xs. IsOnlyAlternative g s xs one.0) alts one.1) _
+    (c.in_ok-document_of.ensures.ok ∙ ap (λ n. xml (followed (element n (put_run s nothing)) nothing) Single) name)

@@ -1,0 +1,11 @@
+//! A grammar and a text, from bytes to what they mean.
+#![tactic(auto)]
+
+mod grammar;
+mod refusal;
+
+pub use grammar::compile;
+pub use refusal::Refusal;
+
+#[cfg(test)]
+mod tests;
