@@ -47,7 +47,7 @@ pub no_grammar_here : IsReply parse_g_t (holding [] (codes "a")) (reply no_gramm
 unfolding is_blank is_name_start is_name_part general_category value_in general_category_rows chars encode
 no_grammar_here = inr (codes "g", codes "t", has_form, ([], refl, inl (refusal.NotIxml, (λ e. cc e), ((omega arith, ([], (refl, refl))), reads_none _ refl), refl)))
 
-only_a_is_plain : HasPlainRule grammars.only_a (grammars.rule (codes "S") (grammars.alternative (grammars.quoted (codes "a") ∷ []) ∷ []))
+pub only_a_is_plain : HasPlainRule grammars.only_a (grammars.rule (codes "S") (grammars.alternative (grammars.quoted (codes "a") ∷ []) ∷ []))
 only_a_is_plain = (refl, refl, (((codes "a", refl), tt), tt))
 
 one_document : codes "<S>a</S>\n" ≡ xml (gives_root (codes "a") grammars.only_a a_tree) Single

@@ -1,14 +1,16 @@
 //! Laws of the definitions that the command's contract speaks of. Each function's contract is the law; the bodies are
 //! empty.
-ghost use Rattle.std.specs.Prelude.{[], ◌∷◌, Some, codes};
-ghost use Rattle.ix_cli.specs.Answered.{IsAnswered, IsCutOff};
+ghost use Rattle.std.specs.Prelude.{◌≡◌, [], ◌∷◌, Some, codes};
+ghost use Rattle.ix_cli.specs.Answered.{IsAnswered, IsCutOff, IsMessage};
 ghost use Rattle.ix_cli.specs.Examples.{holding, raised, no_count};
 ghost use Rattle.ix_model.specs.ExampleAnswers.{parse_g_t, one_way, both_ways};
 ghost use Rattle.ix_cli.specs.Form.{HasForm, HasSomeForm};
 ghost use Rattle.ix_cli.specs.Laws.{ReplyIsOne};
-ghost use Rattle.ix_cli.specs.Lines.{memory_line};
+ghost use Rattle.ix_cli.specs.Lines.{memory_line, not_built_line, write_line};
+ghost use Rattle.ix_cli.specs.PlainGrammar.{IsPlainGrammar};
 ghost use Rattle.ix_cli.specs.PlainText.{IsPlainText};
 ghost use Rattle.ix_cli.specs.Reply.{reply, not_built, IsReply, HasDocument};
+ghost use Rattle.ix_model.specs.ExampleGrammars.{only_a, same_names};
 ghost use Rattle.ix_model.specs.Outcome.{no_form, no_grammar};
 ghost use Rattle.ix_cli.specs.Says.{Says};
 ghost use Rattle.ix_cli.specs.Unread.{IsUnread};
@@ -71,4 +73,17 @@ pub fn lines_that_are_said()
     ensures said { Says (Some []) (Some memory_line) 0 0 memory_line }
     ensures not_silent { ¬ (Says (Some []) (Some []) 0 0 memory_line) }
     ensures failed { Says (Some []) (Some []) 0 1 memory_line }
+{}
+
+/// `S: "a".` is plain; a grammar of two rules is not.
+pub fn grammars_that_are_plain()
+    ensures plain { IsPlainGrammar only_a }
+    ensures two_rules { ¬ (IsPlainGrammar same_names) }
+{}
+
+/// Nothing is said at status 0. At 10 its own line is, and no other.
+pub fn messages_of_a_status()
+    ensures silent { IsMessage 0 (λ line. line ≡ []) }
+    ensures not_built { IsMessage 10 (λ line. line ≡ not_built_line) }
+    ensures another { ¬ (IsMessage 10 (λ line. line ≡ write_line)) }
 {}

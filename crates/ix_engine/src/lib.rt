@@ -2,9 +2,11 @@
 #![tactic(auto)]
 
 mod grammar;
+mod laws;
 mod refusal;
 
 pub use grammar::compile;
+pub use laws::no_bytes;
 pub use refusal::Refusal;
 
 #[cfg(test)]
