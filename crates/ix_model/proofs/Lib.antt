@@ -25,6 +25,7 @@ pub mod FoundTerms
 pub mod FoundWithin
 pub mod Frames
 pub mod Held
+pub mod HexDigits
 pub mod Inversions
 pub mod Judging
 pub mod LexemeFacts
