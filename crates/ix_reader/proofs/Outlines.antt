@@ -12,7 +12,7 @@ use Rattle.ix_model.specs.Spells.{is_class}
 use Rattle.ix_model.specs.Reading.Lexing.{Token, Lexeme, word, quote, hex, at, caret, dash, colon, equals, semi, bar, comma, stop, question, star, stars, plus, pluses, open_group, close_group, open_set, close_set, tilde}
 use Rattle.ix_model.specs.Reading.Machine as M
 use Rattle.ix_model.specs.Reading.Machine.{Phase, Hole, Frame, Work, State, Part, item, star_of, plus_of, begin, ixml, version_next, prolog_stop, rule_start, rule_next, rule_marked, rule_named, alt_start, want, marked, at_marked, inserting, excluding, set_start, member_next, bound_read, range_to, member_read, item_read, term_read}
-use Rattle.ix_reader.specs.Outline.{is_separator, separators, holes, bare, no_part, no_bound, no_factor, Outline, outline, whether}
+use Rattle.ix_reader.specs.Outline.{is_separator, separators, holes, bare, bare_hole, no_part, no_bound, no_factor, Outline, outline, whether}
 
 -- the two go on alike
 abbrev Alike : Option State → Option State → Type 0
@@ -214,6 +214,40 @@ step_alike (range_to s b) v w gap _ e = refl
 step_alike (member_read s) v w gap k e = end_member_alike s no_part v w k e
 step_alike (item_read x) v w gap k e = end_item_alike x no_factor v.top w.top v w k (below_holes v w e)
 step_alike term_read v w gap k e = end_term_alike v.top w.top v w k (below_holes v w e)
+
+-- what was left out once is not there to be left out again
+pub bare_twice : (p : Phase) → bare (bare p) ≡ bare p
+bare_twice begin = refl
+bare_twice ixml = refl
+bare_twice version_next = refl
+bare_twice prolog_stop = refl
+bare_twice rule_start = refl
+bare_twice rule_next = refl
+bare_twice rule_marked = refl
+bare_twice rule_named = refl
+bare_twice alt_start = refl
+bare_twice want = refl
+bare_twice (marked m) = refl
+bare_twice at_marked = refl
+bare_twice inserting = refl
+bare_twice (excluding m) = refl
+bare_twice (set_start s) = refl
+bare_twice (member_next s) = refl
+bare_twice (bound_read s b) = refl
+bare_twice (range_to s b) = refl
+bare_twice (member_read s) = refl
+bare_twice (item_read x) = refl
+bare_twice term_read = refl
+
+pub hole_twice : (h : Hole) → bare_hole (bare_hole h) ≡ bare_hole h
+hole_twice item = refl
+hole_twice (star_of x) = refl
+hole_twice (plus_of x) = refl
+
+pub hole_separates : (h : Hole) → is_separator (bare_hole h) ≡ is_separator h
+hole_separates item = refl
+hole_separates (star_of x) = refl
+hole_separates (plus_of x) = refl
 
 final_alike : (p : Phase) (v w : Work) → whether (M.final p v) ≡ whether (M.final (bare p) w)
 final_alike rule_next v w = refl

@@ -1,5 +1,5 @@
 -- What the reading of the tokens to come depends on, and the values that were read left out.
-use Rattle.std.specs.Prelude.{Bool, true, false, List, [], ◌∷◌, map, Option, Some, None}
+use Rattle.std.specs.Prelude.{◌≡◌, Bool, true, false, List, [], ◌∷◌, map, Option, Some, None}
 use Rattle.ix_model.specs.declared.grammar.Factor.{Factor, Call}
 use Rattle.ix_model.specs.declared.grammar.Bound.{Bound}
 use Rattle.ix_model.specs.declared.grammar.Bound.TheVariants as bound
@@ -38,6 +38,23 @@ bare (range_to s b) = range_to no_part no_bound
 bare (member_read s) = member_read no_part
 bare (item_read x) = item_read no_factor
 bare p = p
+
+-- the hole, without the item before a separator
+abbrev pub bare_hole : Hole → Hole
+bare_hole item = item
+bare_hole (star_of x) = star_of no_factor
+bare_hole (plus_of x) = star_of no_factor
+
+-- no value that was read stands in the state, but in the frames below the innermost
+pub record IsBare (s : State) : Type 0 where
+  pub phase : s.phase ≡ bare s.phase
+  pub hole : s.work.top.hole ≡ bare_hole s.work.top.hole
+  pub alts : s.work.top.alts ≡ []
+  pub terms : s.work.top.terms ≡ []
+  pub version : s.work.version ≡ None
+  pub rules : s.work.rules ≡ []
+  pub mark : s.work.mark ≡ None
+  pub name : s.work.name ≡ []
 
 pub record Outline : Type 0 where
   pub phase : Phase

@@ -1,6 +1,6 @@
 //! Factors: what each token does where one begins, and what becomes of one that is complete.
 
-ghost use Rattle.std.specs.Prelude.{◌≡◌, ◌++◌, ◌∷◌, [], IfOk, Some};
+ghost use Rattle.std.specs.Prelude.{Bool, ◌≡◌, ◌++◌, ◌∷◌, [], IfOk, Some};
 ghost use Rattle.ix_model.specs.Reading.Machine.{factor_done, no_frame, with_term, opened, start_factor, mark_for, marked_factor, step, at_marked, inserting};
 ghost use Rattle.ix_model.specs.declared.grammar.Factor.{Lit};
 ghost use Rattle.ix_reader.specs.Views.{Gives, lexeme_of, frame_of, part_of, work_of, state_of};
@@ -162,8 +162,8 @@ pub fn marked_factor(
 }
 
 /// Behind `@` before a call.
-pub fn attribute_called(work: Work, gap: bool, lexeme: Lexeme) -> Result<State, ReadFault>
-    ensures { Gives state_of result (step at_marked (work_of work) gap (lexeme_of lexeme)) }
+pub fn attribute_called(work: Work, lexeme: Lexeme) -> Result<State, ReadFault>
+    ensures { (gap : Bool) → Gives state_of result (step at_marked (work_of work) gap (lexeme_of lexeme)) }
 {
     match lexeme {
         Lexeme::Word(name) => {
@@ -175,8 +175,8 @@ pub fn attribute_called(work: Work, gap: bool, lexeme: Lexeme) -> Result<State, 
 }
 
 /// Behind the `+` of an insertion.
-pub fn inserted(work: Work, gap: bool, lexeme: Lexeme) -> Result<State, ReadFault>
-    ensures { Gives state_of result (step inserting (work_of work) gap (lexeme_of lexeme)) }
+pub fn inserted(work: Work, lexeme: Lexeme) -> Result<State, ReadFault>
+    ensures { (gap : Bool) → Gives state_of result (step inserting (work_of work) gap (lexeme_of lexeme)) }
 {
     let chars = match lexeme {
         Lexeme::Quote(text) => Chars::Quoted(text),

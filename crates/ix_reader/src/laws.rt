@@ -2,7 +2,9 @@
 
 ghost use Rattle.std.specs.Prelude.{◌≡◌, ℕ, [], Some, None, Ok, Err};
 ghost use Rattle.ix_model.specs.ExampleSpellings.{forms, stop_in_name};
-ghost use Rattle.ix_reader.specs.Examples.{parenthesised, one_pair};
+ghost use Rattle.ix_model.specs.Reading.Machine.{start};
+ghost use Rattle.ix_reader.specs.Examples.{excluding_set, named, one_pair, parenthesised};
+ghost use Rattle.ix_reader.specs.Outline.{IsBare};
 ghost use Rattle.ix_reader.specs.Parentheses.{deepest};
 ghost use Rattle.ix_reader.specs.Size.{size};
 ghost use Rattle.ix_reader.specs.Views.{Gives};
@@ -27,4 +29,11 @@ pub fn worked_views()
     ensures another { ¬ (Gives {X = ℕ} {Y = ℕ} (λ n. n) (Ok 2) (Some 1)) }
     ensures refused { Gives {X = ℕ} {Y = ℕ} (λ n. n) (Err NotIxml) None }
     ensures not_refused { ¬ (Gives {X = ℕ} {Y = ℕ} (λ n. n) (Err NotIxml) (Some 1)) }
+{}
+
+/// Before the first token no value was read; behind the name of a rule and in a set one was.
+pub fn worked_outlines()
+    ensures start { IsBare start }
+    ensures name { ¬ (IsBare named) }
+    ensures set { ¬ (IsBare excluding_set) }
 {}

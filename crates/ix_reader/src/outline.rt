@@ -1,7 +1,7 @@
 //! States without the values that were read.
 
-ghost use Rattle.std.specs.Prelude.{◌≡◌};
-ghost use Rattle.ix_reader.specs.Outline.{bare, is_separator, outline};
+ghost use Rattle.std.specs.Prelude.{◌≡◌, []};
+ghost use Rattle.ix_reader.specs.Outline.{IsBare, bare, bare_hole, no_factor, outline};
 ghost use Rattle.ix_reader.specs.Views.{hole_of, phase_of, state_of};
 
 use crate::factors::no_part;
@@ -11,13 +11,17 @@ use ix_model::{Bound, Factor, Text};
 use sqlite_items::Items;
 use std::alloc::Global;
 
-fn no_text(alloc: Global) -> Text {
+fn no_text(alloc: Global) -> Text
+    ensures { result ≡ [] }
+{
     Text {
         chars: Vec::new(alloc),
     }
 }
 
-fn no_factor(alloc: Global) -> Factor {
+fn no_factor(alloc: Global) -> Factor
+    ensures { result ≡ no_factor }
+{
     Factor::Call {
         mark: None,
         name: no_text(alloc),
@@ -26,7 +30,7 @@ fn no_factor(alloc: Global) -> Factor {
 
 /// The phase, without what was read of a set or of an item.
 fn bare(alloc: Global, phase: Phase) -> Phase
-    ensures { bare (phase_of result) ≡ bare (phase_of phase) }
+    ensures { phase_of result ≡ bare (phase_of phase) }
 {
     let part = no_part(alloc, None, false);
     let bound = Bound::Code(no_text(alloc));
@@ -43,7 +47,7 @@ fn bare(alloc: Global, phase: Phase) -> Phase
 
 /// Whether the factor that comes is a separator, without its item.
 fn bare_hole(alloc: Global, hole: Hole) -> Hole
-    ensures { is_separator (hole_of result) ≡ is_separator (hole_of hole) }
+    ensures { hole_of result ≡ bare_hole (hole_of hole) }
 {
     match hole {
         Hole::Item => Hole::Item,
@@ -51,9 +55,12 @@ fn bare_hole(alloc: Global, hole: Hole) -> Hole
     }
 }
 
-/// The state without the values that were read.
+/// The state without the values that were read; those in the frames below the innermost stay.
+#[tactic(auto, using(crate::proofs::Outlines::bare_twice, crate::proofs::Outlines::hole_twice, crate::proofs::Outlines::hole_separates))]
 pub fn emptied(alloc: Global, state: State) -> State
-    ensures { outline (state_of result) ≡ outline (state_of state) }
+    ensures same { outline (state_of result) ≡ outline (state_of state) }
+    ensures bare { IsBare (state_of result) }
+    ensures below { (state_of result).work.below ≡ (state_of state).work.below }
 {
     let State { phase, work } = state;
     let Work {

@@ -1,6 +1,6 @@
 //! The prolog, and what stands of a rule before its alternatives.
 
-ghost use Rattle.std.specs.Prelude.{◌≡◌, [], Some, codes};
+ghost use Rattle.std.specs.Prelude.{Bool, ◌≡◌, [], Some, codes};
 ghost use Rattle.ix_model.specs.Reading.Machine.{is_text, named, rule_named, rule_marked, start_rule, begin_rule, open_rule, behind_ixml, step, version_next, prolog_stop, rule_next};
 ghost use Rattle.ix_reader.specs.Views.{Gives, lexeme_of, work_of, state_of};
 
@@ -79,8 +79,8 @@ pub fn next_rule(alloc: Global, work: Work, gap: bool, lexeme: Lexeme) -> Result
 }
 
 /// Behind the mark of a rule.
-pub fn name_read(work: Work, gap: bool, lexeme: Lexeme) -> Result<State, ReadFault>
-    ensures { Gives state_of result (step rule_marked (work_of work) gap (lexeme_of lexeme)) }
+pub fn name_read(work: Work, lexeme: Lexeme) -> Result<State, ReadFault>
+    ensures { (gap : Bool) → Gives state_of result (step rule_marked (work_of work) gap (lexeme_of lexeme)) }
 {
     match lexeme {
         Lexeme::Word(name) => {
@@ -201,8 +201,8 @@ pub fn version_read(work: Work, gap: bool, lexeme: Lexeme) -> Result<State, Read
 }
 
 /// Behind the string of the version: the full stop.
-pub fn stop_read(work: Work, gap: bool, lexeme: Lexeme) -> Result<State, ReadFault>
-    ensures { Gives state_of result (step prolog_stop (work_of work) gap (lexeme_of lexeme)) }
+pub fn stop_read(work: Work, lexeme: Lexeme) -> Result<State, ReadFault>
+    ensures { (gap : Bool) → Gives state_of result (step prolog_stop (work_of work) gap (lexeme_of lexeme)) }
 {
     match lexeme {
         Lexeme::Stop => Ok(State {

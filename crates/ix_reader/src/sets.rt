@@ -1,6 +1,6 @@
 //! Sets: their members and the bounds of their ranges.
 
-ghost use Rattle.std.specs.Prelude.{◌≡◌, ◌++◌, ◌∷◌, [], IfOk, Some};
+ghost use Rattle.std.specs.Prelude.{Bool, ◌≡◌, ◌++◌, ◌∷◌, [], IfOk, Some};
 ghost use Rattle.ix_model.specs.Spells.{is_class};
 ghost use Rattle.ix_model.specs.Reading.Machine.{with_member, member_of, set_done, quoted_member, quoted_bound, start_member, end_member, step, excluding, set_start, bound_read, range_to};
 ghost use Rattle.ix_reader.specs.Views.{Gives, lexeme_of, part_of, work_of, state_of};
@@ -50,10 +50,9 @@ pub fn set_opens(
     alloc: Global,
     tmark: Option<TMark>,
     work: Work,
-    gap: bool,
     lexeme: Lexeme,
 ) -> Result<State, ReadFault>
-    ensures { Gives state_of result (step (excluding tmark) (work_of work) gap (lexeme_of lexeme)) }
+    ensures { (gap : Bool) → Gives state_of result (step (excluding tmark) (work_of work) gap (lexeme_of lexeme)) }
 {
     match lexeme {
         Lexeme::OpenSet => Ok(State {
@@ -116,8 +115,8 @@ pub fn start_member(part: Part, work: Work, lexeme: Lexeme) -> Result<State, Rea
 
 /// Behind the bracket that opens a set.
 #[tactic(auto, using(crate::proofs::Views::set_start_else))]
-pub fn member_or_end(part: Part, work: Work, gap: bool, lexeme: Lexeme) -> Result<State, ReadFault>
-    ensures { Gives state_of result (step (set_start (part_of part)) (work_of work) gap (lexeme_of lexeme)) }
+pub fn member_or_end(part: Part, work: Work, lexeme: Lexeme) -> Result<State, ReadFault>
+    ensures { (gap : Bool) → Gives state_of result (step (set_start (part_of part)) (work_of work) gap (lexeme_of lexeme)) }
 {
     match lexeme {
         Lexeme::CloseSet => set_done(part, work),
@@ -156,10 +155,9 @@ pub fn range_or_end(
     part: Part,
     bound: Bound,
     work: Work,
-    gap: bool,
     lexeme: Lexeme,
 ) -> Result<State, ReadFault>
-    ensures { Gives state_of result (step (bound_read (part_of part) bound) (work_of work) gap (lexeme_of lexeme)) }
+    ensures { (gap : Bool) → Gives state_of result (step (bound_read (part_of part) bound) (work_of work) gap (lexeme_of lexeme)) }
 {
     match lexeme {
         Lexeme::Dash => Ok(State {
@@ -193,10 +191,9 @@ pub fn range_ends(
     part: Part,
     low: Bound,
     work: Work,
-    gap: bool,
     lexeme: Lexeme,
 ) -> Result<State, ReadFault>
-    ensures { Gives state_of result (step (range_to (part_of part) low) (work_of work) gap (lexeme_of lexeme)) }
+    ensures { (gap : Bool) → Gives state_of result (step (range_to (part_of part) low) (work_of work) gap (lexeme_of lexeme)) }
 {
     match lexeme {
         Lexeme::Quote(text) => quoted_bound(part, low, work, text),

@@ -1,6 +1,6 @@
 //! Terms, alternatives, and what closes around them.
 
-ghost use Rattle.std.specs.Prelude.{◌≡◌, ◌++◌, ◌∷◌, [], IfOk};
+ghost use Rattle.std.specs.Prelude.{Bool, ◌≡◌, ◌++◌, ◌∷◌, [], IfOk};
 ghost use Rattle.ix_model.specs.Reading.Machine.{complete, close, end_rule, end_alt, with_hole, end_term, end_item, fresh, step, alt_start};
 ghost use Rattle.ix_reader.specs.Views.{Gives, lexeme_of, hole_of, frame_of, frames_of, work_of, state_of};
 
@@ -201,8 +201,8 @@ fn fresh(alloc: Global, frame: Frame) -> Frame
 
 /// Where an alternative begins.
 #[tactic(auto, using(crate::proofs::Views::alt_start_else))]
-pub fn start_alt(alloc: Global, work: Work, gap: bool, lexeme: Lexeme) -> Result<State, ReadFault>
-    ensures { Gives state_of result (step alt_start (work_of work) gap (lexeme_of lexeme)) }
+pub fn start_alt(alloc: Global, work: Work, lexeme: Lexeme) -> Result<State, ReadFault>
+    ensures { (gap : Bool) → Gives state_of result (step alt_start (work_of work) gap (lexeme_of lexeme)) }
 {
     let Work { head, top, below } = work;
     let top = fresh(alloc, top);

@@ -14,7 +14,7 @@ loop-token-preserved c =
     record {
       tokens = h.5;
       left =
-          run_alike _ (state_of c.emptied-state.result) (state_of c.in_ok-behind.field-0) c.emptied-state.ensures
+          run_alike _ (state_of c.emptied-state.result) (state_of c.in_ok-behind.field-0) c.emptied-state.ensures.same
           ∙ ap whether (sym (next_run c.args.chars.now c.args.tokens.now _ c.loop-token.last c.loop-token.token-index (state_of c.loop-token.state) (state_of c.in_ok-behind.field-0) c.loop-token-test.true c.in_ok-behind.ensures))
           ∙ c.loop-token.invariant.left;
     }
