@@ -48,6 +48,7 @@ pub mod Refusals
 pub mod Rereading
 pub mod Roots
 pub mod Runs
+pub mod Sizes
 pub mod SlotPlaces
 pub mod SlotReaders
 pub mod Slots

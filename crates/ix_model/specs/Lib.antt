@@ -50,6 +50,7 @@ pub mod Ranges
 pub mod Reached
 pub mod Reading
 pub mod Sets
+pub mod Size
 pub mod SlotLaws
 pub mod SlotPlaces
 pub mod Slots

@@ -1,8 +1,6 @@
--- The depth and the size of what is read, for each form of it and for lists that grow at their end.
-use Rattle.std.proofs.Common.{◌≡◌, ap, ◌∙◌, ℕ, ◌+◌, List, [], ◌∷◌, ◌++◌, Option, Some, None, map, arith}
-use Rattle.std.proofs.lemmas.List.{map-append}
-use Rattle.std.proofs.lemmas.List.Sums.{fold_push}
-use Rattle.std.specs.Prelude.{max, sum, Bool}
+-- The depth of what is read, for each form of it and for lists that grow at their end.
+use Rattle.std.proofs.Common.{◌≡◌, ℕ, ◌+◌, List, [], ◌∷◌, ◌++◌, Option, Some, None, map, arith}
+use Rattle.std.specs.Prelude.{max, Bool}
 use Rattle.ix_model.specs.declared.grammar.Rule.{Rule}
 use Rattle.ix_model.specs.declared.grammar.Mark.{Mark}
 use Rattle.ix_model.specs.declared.grammar.TMark.{TMark}
@@ -14,16 +12,12 @@ use Rattle.ix_model.specs.declared.grammar.Factor.{Factor, Lit, Set, Call, Inser
 use Rattle.ix_model.specs.declared.grammar.Factor.TheFolds.{fold-Factor, fold-Term}
 use Rattle.ix_model.specs.Depth as D
 use Rattle.ix_model.proofs.Folds as F
-use Rattle.ix_reader.specs.Size as Z
 
 pub greatest_push : {X : Type 0} (f : X → ℕ) (xs : List X) (x : X) → D.greatest (map f (xs ++ x ∷ [])) ≡ max (D.greatest (map f xs)) (f x)
 greatest_push f [] x = omega arith
 greatest_push f (y ∷ xs) x = omega (arith, greatest_push f xs x)
 
-pub sum_push : {X : Type 0} (f : X → ℕ) (xs : List X) (x : X) → sum (map f (xs ++ x ∷ [])) ≡ sum (map f xs) + f x
-sum_push f xs x = ap sum (map-append f xs (x ∷ [])) ∙ fold_push (λ (s n : ℕ). s + n) 0 (map f xs) (f x)
 
--- ---- depth
 
 abbrev pub factor_depth : Factor → ℕ
 factor_depth = fold-Factor ℕ ℕ ℕ D.factor_step D.term_step D.alt_step
@@ -78,56 +72,3 @@ depth_plus_by x s = F.fold_plus ℕ ℕ ℕ D.factor_step D.term_step D.alt_step
 
 pub depth_alt : (a : Alt) → D.alt_depth a ≡ terms_depth a.terms
 depth_alt a = F.fold_alt ℕ ℕ ℕ D.factor_step D.term_step D.alt_step a
-
--- ---- size
-
-abbrev pub factor_size : Factor → ℕ
-factor_size = fold-Factor ℕ ℕ ℕ Z.factor_step Z.term_step Z.alt_step
-
-abbrev pub term_size : Term → ℕ
-term_size = fold-Term ℕ ℕ ℕ Z.factor_step Z.term_step Z.alt_step
-
-abbrev pub terms_size : List Term → ℕ
-terms_size ts = sum (map term_size ts)
-
-abbrev pub alts_size : List Alt → ℕ
-alts_size alts = sum (map Z.alt_size alts)
-
-abbrev pub rules_size : List Rule → ℕ
-rules_size rules = sum (map Z.rule_size rules)
-
-pub size_lit : (m : Option TMark) (cs : Chars) → factor_size (Lit m cs) ≡ 0
-size_lit m cs = F.fold_lit ℕ ℕ ℕ Z.factor_step Z.term_step Z.alt_step m cs
-
-pub size_set : (m : Option TMark) (exclude : Bool) (ms : List Member) → factor_size (Set m exclude ms) ≡ 0
-size_set m exclude ms = F.fold_set ℕ ℕ ℕ Z.factor_step Z.term_step Z.alt_step m exclude ms
-
-pub size_call : (m : Option Mark) (name : List ℕ) → factor_size (Call m name) ≡ 0
-size_call m name = F.fold_call ℕ ℕ ℕ Z.factor_step Z.term_step Z.alt_step m name
-
-pub size_insert : (cs : Chars) → factor_size (Insert cs) ≡ 0
-size_insert cs = F.fold_insert ℕ ℕ ℕ Z.factor_step Z.term_step Z.alt_step cs
-
-pub size_group : (alts : List Alt) → factor_size (Group alts) ≡ alts_size alts
-size_group alts = F.fold_group ℕ ℕ ℕ Z.factor_step Z.term_step Z.alt_step alts
-
-pub size_one : (x : Factor) → term_size (One x) ≡ factor_size x + 1
-size_one x = F.fold_one ℕ ℕ ℕ Z.factor_step Z.term_step Z.alt_step x
-
-pub size_opt : (x : Factor) → term_size (Opt x) ≡ factor_size x + 1
-size_opt x = F.fold_opt ℕ ℕ ℕ Z.factor_step Z.term_step Z.alt_step x
-
-pub size_star : (x : Factor) → term_size (Star x None) ≡ factor_size x + 0 + 1
-size_star x = F.fold_star ℕ ℕ ℕ Z.factor_step Z.term_step Z.alt_step x None
-
-pub size_star_by : (x s : Factor) → term_size (Star x (Some s)) ≡ factor_size x + (factor_size s + 1) + 1
-size_star_by x s = F.fold_star ℕ ℕ ℕ Z.factor_step Z.term_step Z.alt_step x (Some s)
-
-pub size_plus : (x : Factor) → term_size (Plus x None) ≡ factor_size x + 0 + 1
-size_plus x = F.fold_plus ℕ ℕ ℕ Z.factor_step Z.term_step Z.alt_step x None
-
-pub size_plus_by : (x s : Factor) → term_size (Plus x (Some s)) ≡ factor_size x + (factor_size s + 1) + 1
-size_plus_by x s = F.fold_plus ℕ ℕ ℕ Z.factor_step Z.term_step Z.alt_step x (Some s)
-
-pub size_alt : (a : Alt) → Z.alt_size a ≡ terms_size a.terms + 1
-size_alt a = F.fold_alt ℕ ℕ ℕ Z.factor_step Z.term_step Z.alt_step a

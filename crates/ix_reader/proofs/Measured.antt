@@ -6,7 +6,7 @@ use Rattle.ix_model.specs.Depth.{depth}
 use Rattle.ix_model.specs.Reading.Lexing.{Token}
 use Rattle.ix_model.specs.Reading.Machine as M
 use Rattle.ix_reader.specs.Parentheses.{turn, deepest}
-use Rattle.ix_reader.specs.Size.{size}
+use Rattle.ix_model.specs.Size.{size}
 use Rattle.ix_reader.proofs.Measures.{height, size_read, depth_read, Grows, step_grows}
 
 -- what the measures where m tokens are left say of the grammar: d is the most parentheses that are open behind one of them

@@ -15,7 +15,7 @@ use Rattle.ix_reader.specs.declared.read_fault.ReadFault.{ReadFault}
 use Rattle.ix_reader.specs.declared.read_fault.ReadFault.TheVariants.{NotIxml}
 use Rattle.ix_reader.specs.Outline.{whether}
 use Rattle.ix_reader.specs.Parentheses.{deepest}
-use Rattle.ix_reader.specs.Size.{size}
+use Rattle.ix_model.specs.Size.{size}
 use Rattle.ix_reader.specs.Views.{Gives}
 use Rattle.ix_reader.proofs.Measured.{run_measures}
 use Rattle.ix_reader.proofs.Turns.{few_tokens, as_many}

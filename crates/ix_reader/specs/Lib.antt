@@ -1,5 +1,4 @@
 pub mod Examples
 pub mod Outline
 pub mod Parentheses
-pub mod Size
 pub mod Views

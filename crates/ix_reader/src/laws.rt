@@ -1,20 +1,12 @@
 //! Laws of the definitions. The contract is the law, and the body is empty.
 
 ghost use Rattle.std.specs.Prelude.{◌≡◌, ℕ, [], Some, None, Ok, Err};
-ghost use Rattle.ix_model.specs.ExampleSpellings.{forms, stop_in_name};
 ghost use Rattle.ix_model.specs.Reading.Machine.{start};
 ghost use Rattle.ix_reader.specs.Examples.{excluding_set, named, one_pair, parenthesised};
 ghost use Rattle.ix_reader.specs.Outline.{IsBare};
 ghost use Rattle.ix_reader.specs.Parentheses.{deepest};
-ghost use Rattle.ix_reader.specs.Size.{size};
 ghost use Rattle.ix_reader.specs.Views.{Gives};
 ghost use Rattle.ix_reader.specs.declared.read_fault.ReadFault.TheVariants.{NotIxml};
-
-/// How much stands in a grammar: rules, alternatives, terms and separators.
-pub fn worked_sizes()
-    ensures two_rules { size stop_in_name ≡ 6 }
-    ensures all_forms { size forms ≡ 17 }
-{}
 
 /// In `(())()` two parentheses are open at once, and in `()` one.
 pub fn worked_depths()

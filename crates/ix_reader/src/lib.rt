@@ -13,7 +13,7 @@ mod sets;
 mod step;
 mod terms;
 
-pub use laws::{worked_depths, worked_outlines, worked_sizes, worked_views};
+pub use laws::{worked_depths, worked_outlines, worked_views};
 pub use read_fault::ReadFault;
 pub use reader::read;
 

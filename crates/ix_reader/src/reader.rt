@@ -11,7 +11,7 @@ ghost use Rattle.ix_lex.specs.declared.token.Tok.TheVariants.{Quote};
 ghost use Rattle.ix_reader.specs.declared.read_fault.ReadFault.TheVariants.{NotIxml, TooDeep};
 ghost use Rattle.ix_reader.specs.Outline.{whether};
 ghost use Rattle.ix_reader.specs.Parentheses.{deepest};
-ghost use Rattle.ix_reader.specs.Size.{size};
+ghost use Rattle.ix_model.specs.Size.{size};
 ghost use Rattle.ix_reader.specs.Views.{Gives, phase_of, work_of, state_of};
 
 use crate::lexemes::{lexeme, turn};

@@ -13,6 +13,7 @@ pub mod places;
 pub mod plans;
 pub mod readings;
 pub mod refusals;
+pub mod sizes;
 pub mod spelling;
 pub mod terminals;
 pub mod useful;

@@ -1,6 +1,6 @@
 use Rattle.std.proofs.Common.{refl}
 use Rattle.ix_model.proofs.Folds.{the_folds}
-use Rattle.ix_reader.proofs.laws.worked_sizes.Goals as goal
+use Rattle.ix_model.proofs.examples.sizes.worked_sizes.Goals as goal
 
 pub returns-clause-two_rules : goal.returns-clause-two_rules
 returns-clause-two_rules c = simp the_folds refl

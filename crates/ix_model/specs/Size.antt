@@ -3,8 +3,10 @@ use Rattle.std.specs.Prelude.{ℕ, ◌+◌, sum, Option, Some, None, map}
 use Rattle.ix_model.specs.declared.grammar.Grammar.{Grammar}
 use Rattle.ix_model.specs.declared.grammar.Rule.{Rule}
 use Rattle.ix_model.specs.declared.grammar.Alt.{Alt}
+use Rattle.ix_model.specs.declared.grammar.Term.{Term}
+use Rattle.ix_model.specs.declared.grammar.Factor.{Factor}
 use Rattle.ix_model.specs.declared.grammar.Factor.TheOpen.{Factor-F, Term-F, Alt-F}
-use Rattle.ix_model.specs.declared.grammar.Factor.TheFolds.{fold-Alt}
+use Rattle.ix_model.specs.declared.grammar.Factor.TheFolds.{fold-Factor, fold-Term, fold-Alt}
 
 -- a separator, where there is one, and what stands in it
 abbrev pub separator_size : Option ℕ → ℕ
@@ -26,6 +28,14 @@ term_step (Term-F.Plus f sep) = f + separator_size sep + 1
 -- an alternative and its terms
 abbrev pub alt_step : Alt-F ℕ ℕ ℕ → ℕ
 alt_step a = sum a.terms + 1
+
+-- what stands in a factor
+abbrev pub factor_size : Factor → ℕ
+factor_size = fold-Factor ℕ ℕ ℕ factor_step term_step alt_step
+
+-- a term and what stands in it
+abbrev pub term_size : Term → ℕ
+term_size = fold-Term ℕ ℕ ℕ factor_step term_step alt_step
 
 -- an alternative and what stands in it
 abbrev pub alt_size : Alt → ℕ
