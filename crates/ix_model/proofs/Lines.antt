@@ -1,15 +1,15 @@
--- Lines of literals.
+-- Lines of literals and sets.
 use Rattle.std.proofs.Common.{◌≡◌, refl, ap, sym, subst, ◌∙◌, ◌+◌, ◌≤◌, ℕ, zero, suc, List, [], ◌∷◌, length, None, Some, arith, slice_get, get_or, ◌<◌}
 use mathlib.Core.Logic.{inl, inr}
 use Rattle.ix_model.specs.declared.grammar.Grammar.{Grammar}
-use Rattle.ix_model.specs.declared.grammar.Chars.TheVariants.{Quoted}
 use Rattle.ix_model.specs.declared.grammar.Term.{Term, One}
 use Rattle.ix_model.specs.declared.grammar.Factor.{Lit}
 use Rattle.ix_model.specs.Plain.{IsPlain, ArePlain}
 use Rattle.ix_model.specs.Trees.{Tree, text, Trees, no_tree, and, tree_count}
 use Rattle.ix_model.specs.Derives.{Derives, DerivesFirst}
 use Rattle.ix_model.specs.Terminals.{Matches}
-use Rattle.ix_model.proofs.Forms.{derived_form, one_form, factor_form, out_lit}
+use Rattle.ix_model.specs.declared.grammar.Factor.TheViews.{out-Term}
+use Rattle.ix_model.proofs.Forms.{derived_form, one_form, factor_form, term_form, out_lit, out_set}
 
 -- what matches at a place ends at one place
 pub matches_once : (s : List ℕ) (t : Term) (i j k : ℕ) → Matches s t i j → Matches s t i k → j ≡ k
@@ -26,11 +26,16 @@ pub matches_within : (s : List ℕ) (t : Term) (i j : ℕ) → Matches s t i j �
 matches_within s t i j (inl h) = h.3.1
 matches_within s t i j (inr h) = h.6.1
 
+-- a plain term is a terminal
+pub plain_form : (t : Term) → IsPlain t → term_form (out-Term t) ≡ 0
+plain_form t (inl p) = one_form t _ 0 p.1 (ap factor_form (out_lit None p.0))
+plain_form t (inr p) = one_form t _ 0 p.2 (ap factor_form (out_set None p.0 p.1))
+
 module _ (g : Grammar) (s : List ℕ) where
   -- what derives from a plain term is the text of its characters
   pub plain_tree : (d : Tree) (t : Term) (i j : ℕ) → IsPlain t → Derives g s d t i j → Matches s t i j
   plain_tree (text a b) t i j p h = h.2
-  plain_tree d t i j p h = absurd (omega (arith, sym (derived_form g s d t i j h) ∙ one_form t _ 0 p.1 (ap factor_form (out_lit None (Quoted p.0)))))
+  plain_tree d t i j p h = absurd (omega (arith, sym (derived_form g s d t i j h) ∙ plain_form t p))
 
   -- there is a derivation of the first n terms to the place, and each such derivation ends there
   pub record Comes (terms : List Term) (n at : ℕ) : Type 0 where

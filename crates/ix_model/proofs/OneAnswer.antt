@@ -118,6 +118,14 @@ module _ (bytes : List ℕ) where
   not_refused _ g (is_deep h t' s' d') ((t, s, d), n) = omega (arith, ap depth (same_grammar h g s' s), d', d)
   not_refused _ g (has_fault f h held b) ((t, s, d), n) = n f (subst (λ x. Breach x f) (same_grammar h g held.1 s) b.0)
 
+-- bytes are refused as a grammar in one way
+pub refused_once : (bytes : List ℕ) (o p : Outcome) → GrammarRefused bytes o → GrammarRefused bytes p → o ≡ p
+refused_once bytes o p h k = one_reason bytes o p (reason bytes o h) (reason bytes p k)
+
+-- and what holds a conforming grammar in none
+pub refused_or_held : (bytes : List ℕ) (o : Outcome) (g : Grammar) → GrammarRefused bytes o → HoldsConforming bytes g → ⊥
+refused_or_held bytes o g h k = not_refused bytes o g (reason bytes o h) k
+
 -- ---- one outcome of a text
 
 module _ (g : Grammar) where
@@ -206,18 +214,18 @@ module _ (words : List (List ℕ)) (map : List ℕ → Option (List ℕ)) where
   held_once name bytes other h k = let x : Some other ≡ Some bytes = sym k ∙ h in cc x
 
   one_checked : (bytes : List ℕ) (o p : Outcome) → GrammarRefused bytes o ⊎ ((g : Grammar) × HoldsConforming bytes g × (o ≡ conforms)) → GrammarRefused bytes p ⊎ ((g : Grammar) × HoldsConforming bytes g × (p ≡ conforms)) → o ≡ p
-  one_checked bytes o p (inl h) (inl k) = one_reason bytes o p (reason bytes o h) (reason bytes p k)
-  one_checked bytes o p (inl h) (inr (g, k, e)) = absurd (not_refused bytes o g (reason bytes o h) k)
-  one_checked bytes o p (inr (g, h, e)) (inl k) = absurd (not_refused bytes p g (reason bytes p k) h)
+  one_checked bytes o p (inl h) (inl k) = refused_once bytes o p h k
+  one_checked bytes o p (inl h) (inr (g, k, e)) = absurd (refused_or_held bytes o g h k)
+  one_checked bytes o p (inr (g, h, e)) (inl k) = absurd (refused_or_held bytes p g k h)
   one_checked bytes o p (inr (g, h, e)) (inr (g', k, f)) = e ∙ sym f
 
   abbrev OfText : List ℕ → List ℕ → Outcome → Type 0
   OfText text bytes o = GrammarRefused bytes o ⊎ ((g : Grammar) × HoldsConforming bytes g × (s : List ℕ) × (map text ≡ Some s) × TextAnswered g s o)
 
   one_of_text : (text bytes : List ℕ) (o p : Outcome) → OfText text bytes o → OfText text bytes p → o ≡ p
-  one_of_text text bytes o p (inl h) (inl k) = one_reason bytes o p (reason bytes o h) (reason bytes p k)
-  one_of_text text bytes o p (inl h) (inr (g, k, s, e, t)) = absurd (not_refused bytes o g (reason bytes o h) k)
-  one_of_text text bytes o p (inr (g, h, s, e, t)) (inl k) = absurd (not_refused bytes p g (reason bytes p k) h)
+  one_of_text text bytes o p (inl h) (inl k) = refused_once bytes o p h k
+  one_of_text text bytes o p (inl h) (inr (g, k, s, e, t)) = absurd (refused_or_held bytes o g h k)
+  one_of_text text bytes o p (inr (g, h, s, e, t)) (inl k) = absurd (refused_or_held bytes p g k h)
   one_of_text text bytes o p (inr (g, h, s, e, t)) (inr (g', k, s', e', t')) =
       let same : g' ≡ g = spelled_once (decoded bytes) g' g k.0.1 h.0.1 in
       let u : TextAnswered g s p = subst (λ x. TextAnswered x s p) same (subst (λ x. TextAnswered g' x p) (held_once text s s' e e') t') in

@@ -1,13 +1,14 @@
--- Plain terms: literals without a mark that are written in quotes.
-use Rattle.std.specs.Prelude.{◌≡◌, ℕ, List, None}
+-- Plain terms: literals and sets without a mark.
+use Rattle.std.specs.Prelude.{◌≡◌, ◌⊎◌, Bool, List, None}
 use Rattle.std.specs.List.{AllByRecursion}
-use Rattle.ix_model.specs.declared.grammar.Chars.TheVariants.{Quoted}
+use Rattle.ix_model.specs.declared.grammar.Chars.{Chars}
+use Rattle.ix_model.specs.declared.grammar.Member.{Member}
 use Rattle.ix_model.specs.declared.grammar.Term.{Term, One}
-use Rattle.ix_model.specs.declared.grammar.Factor.{Lit}
+use Rattle.ix_model.specs.declared.grammar.Factor.{Lit, Set}
 
--- the term is a literal without a mark that is written in quotes
+-- the term is a literal or a set without a mark
 abbrev pub IsPlain : Term → Type 0
-IsPlain t = (cs : List ℕ) × (t ≡ One (Lit None (Quoted cs)))
+IsPlain t = ((chars : Chars) × (t ≡ One (Lit None chars))) ⊎ ((exclude : Bool) × (members : List Member) × (t ≡ One (Set None exclude members)))
 
 -- each of the terms is plain
 abbrev pub ArePlain : List Term → Type 0

@@ -1,4 +1,7 @@
-ghost use Rattle.std.specs.Prelude.{List, [], ◌∷◌, codes};
+ghost use Rattle.std.specs.Prelude.{List, [], ◌∷◌, None, Some, true, codes};
+ghost use Rattle.ix_model.specs.declared.grammar.Chars.TheVariants.{Code};
+ghost use Rattle.ix_model.specs.declared.grammar.Factor.{Lit, Set};
+ghost use Rattle.ix_model.specs.declared.grammar.TMark.TheVariants.{Deleted};
 ghost use Rattle.ix_model.specs.declared.grammar.Term.{Term, One};
 ghost use Rattle.ix_model.specs.Written.{IsNamed, IsOfRule};
 ghost use Rattle.ix_model.specs.Plain.{IsPlain, ArePlain};
@@ -22,9 +25,12 @@ pub fn unique_names()
     ensures two { ¬ (HasUniqueNames same_names) }
 {}
 
-/// A plain term is a literal in quotes without a mark.
+/// A plain term is a literal or a set without a mark.
 pub fn plain_terms()
     ensures literal { IsPlain (quoted (codes "a")) }
+    ensures number { IsPlain (One (Lit None (Code (codes "41")))) }
+    ensures set { IsPlain (One (Set None true [])) }
+    ensures deleted_set { ¬ (IsPlain (One (Set (Some Deleted) true []))) }
     ensures mark { ¬ (IsPlain (One (deleted (codes "a")))) }
     ensures call { ¬ (IsPlain (call (codes "a"))) }
     ensures both { ArePlain (quoted (codes "a") ∷ quoted [] ∷ []) }
