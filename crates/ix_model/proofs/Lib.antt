@@ -12,6 +12,7 @@ pub mod ClosedWithin
 pub mod Commands
 pub mod Covering
 pub mod Decide
+pub mod FirstNames
 pub mod Firsts
 pub mod FlatWidths
 pub mod Folds

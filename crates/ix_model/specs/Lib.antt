@@ -36,6 +36,7 @@ pub mod Heights
 pub mod Laws
 pub mod Lift
 pub mod Lower
+pub mod Names
 pub mod Numbered
 pub mod Numbering
 pub mod Offset

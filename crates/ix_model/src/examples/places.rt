@@ -1,9 +1,10 @@
-ghost use Rattle.std.specs.Prelude.{List, [], ◌∷◌, None, Some, true, codes};
+ghost use Rattle.std.specs.Prelude.{◌≡◌, List, [], ◌∷◌, None, Some, true, codes};
 ghost use Rattle.ix_model.specs.declared.grammar.Chars.TheVariants.{Code};
 ghost use Rattle.ix_model.specs.declared.grammar.Factor.{Lit, Set};
 ghost use Rattle.ix_model.specs.declared.grammar.TMark.TheVariants.{Deleted};
 ghost use Rattle.ix_model.specs.declared.grammar.Term.{Term, One};
 ghost use Rattle.ix_model.specs.Written.{IsNamed, IsOfRule};
+ghost use Rattle.ix_model.specs.Names.{names_of, IsFirstAt};
 ghost use Rattle.ix_model.specs.Plain.{IsPlain, ArePlain};
 ghost use Rattle.ix_model.specs.Laws.{HasUniqueNames};
 ghost use Rattle.ix_model.specs.ExampleGrammars.{quoted, deleted, call, only_a, sums, hidden, same_names};
@@ -23,6 +24,14 @@ pub fn unique_names()
     ensures one { HasUniqueNames only_a }
     ensures four { HasUniqueNames hidden }
     ensures two { ¬ (HasUniqueNames same_names) }
+{}
+
+/// The names of rules stand in the order of the rules, and of two rules with one name the first counts.
+pub fn first_rule_of_a_name()
+    ensures names { names_of same_names.rules ≡ codes "S" ∷ codes "S" ∷ [] }
+    ensures first { IsFirstAt (names_of same_names.rules) (codes "S") 0 }
+    ensures not_second { ¬ (IsFirstAt (names_of same_names.rules) (codes "S") 1) }
+    ensures other_name { ¬ (IsFirstAt (names_of same_names.rules) (codes "T") 0) }
 {}
 
 /// A plain term is a literal or a set without a mark.

@@ -1,0 +1,156 @@
+-- The first of a list that passes a test, and names by their numbers.
+use Rattle.std.proofs.Common.{◌≡◌, ◌≢◌, refl, ap, sym, ◌∙◌, subst, ℕ, zero, suc, ◌<◌, ◌+◌, List, [], ◌∷◌, ◌++◌, length, Option, Some, None, arith, add-zero}
+use Rattle.std.specs.Prelude.{Bool, true, false, cond, slice_get, is_some, IfSome, IfNone}
+use Rattle.std.specs.List.{position_from}
+use Rattle.std.specs.Option.{option_or, option_map}
+use Rattle.std.specs.Str.{bytes_eq}
+use Rattle.std.specs.Ordering.{nat_cmp}
+use Rattle.std.specs.Cmp.Lexicographic.{slice_cmp}
+use Rattle.std.specs.BTreeMap.{BTreeMap, UpdatesBy}
+use Rattle.std.specs.Borrow.{Bor}
+use Rattle.std.proofs.lemmas.Slice.Eq.{bytes_eq-Decides}
+use Rattle.std.proofs.lemmas.Map.Text.{btree_map_updates_str}
+use Rattle.std.proofs.lemmas.Option.{slice_get-map}
+use Rattle.ix_model.specs.declared.grammar.Grammar.{Grammar}
+use Rattle.ix_model.specs.declared.grammar.Rule.{Rule}
+use Rattle.ix_model.specs.Written.{IsNamed}
+use Rattle.ix_model.specs.Breach.{IsDefined}
+use Rattle.ix_model.specs.Names.{names_of, IsFirstAt, number_in, AreNumbersOf, AddsFirst}
+
+-- ---- the first that passes
+
+module _ {X : Type 0} (p : X → Bool) where
+  -- the first of a list with one more at its end
+  pub position_push : (i : ℕ) (xs : List X) (y : X) → position_from p i (xs ++ y ∷ []) ≡ option_or (position_from p i xs) (cond (p y) (Some (i + length xs)) None)
+  position_push i [] y = ap (λ n. cond (p y) (Some n) None) (sym (add-zero i))
+  position_push i (x ∷ xs) y =
+      let later : i + 1 + length xs ≡ i + length (x ∷ xs) = omega arith in
+      elim (p x) as (λ b. cond b (Some i) (position_from p (i + 1) (xs ++ y ∷ [])) ≡ option_or (cond b (Some i) (position_from p (i + 1) xs)) (cond (p y) (Some (i + length (x ∷ xs))) None)) [
+        | true ↦ refl
+        | false ↦ position_push (i + 1) xs y ∙ ap (λ n. option_or (position_from p (i + 1) xs) (cond (p y) (Some n) None)) later
+      ]
+
+  abbrev FailsAll : List X → Type 0
+  FailsAll xs = (q : ℕ) (y : X) → slice_get xs q ≡ Some y → p y ≡ false
+
+  abbrev FailsBelow : ℕ → List X → Type 0
+  FailsBelow k xs = (q : ℕ) (y : X) → q < k → slice_get xs q ≡ Some y → p y ≡ false
+
+  abbrev IsFirst : ℕ → List X → ℕ → Type 0
+  IsFirst i xs r = (k : ℕ) × (r ≡ i + k) × ((x : X) × (slice_get xs k ≡ Some x) × (p x ≡ true)) × FailsBelow k xs
+
+  -- where there is no first, none passes
+  pub none_passes : (i : ℕ) (xs : List X) → position_from p i xs ≡ None → FailsAll xs
+  none_passes i [] e = λ q y h. absurd (cc h)
+  none_passes i (x ∷ xs) e = by_head (p x) refl e (none_passes (i + 1) xs)
+    where
+      by_head : (b : Bool) → p x ≡ b → cond b (Some i) (position_from p (i + 1) xs) ≡ None → (position_from p (i + 1) xs ≡ None → FailsAll xs) → FailsAll (x ∷ xs)
+      by_head true here e more = absurd (cc e)
+      by_head false here e more = at
+        where
+          at : FailsAll (x ∷ xs)
+          at zero y h = let d : x ≡ y = cc h in sym (ap p d) ∙ here
+          at (suc q) y h = more e q y h
+
+  -- the first passes, and none before it does
+  pub first_passes : (i : ℕ) (xs : List X) (r : ℕ) → position_from p i xs ≡ Some r → IsFirst i xs r
+  first_passes i [] r e = absurd (cc e)
+  first_passes i (x ∷ xs) r e = by_head (p x) refl e (first_passes (i + 1) xs r)
+    where
+      by_head : (b : Bool) → p x ≡ b → cond b (Some i) (position_from p (i + 1) xs) ≡ Some r → (position_from p (i + 1) xs ≡ Some r → IsFirst (i + 1) xs r) → IsFirst i (x ∷ xs) r
+      by_head true here e more = let d : i ≡ r = cc e in (0, sym d ∙ sym (add-zero i), (x, refl, here), λ q y h _. absurd (omega (arith, h)))
+      by_head false here e more = later (more e)
+        where
+          later : IsFirst (i + 1) xs r → IsFirst i (x ∷ xs) r
+          later (k, n, there, none) = (suc k, omega (arith, n), there, at)
+            where
+              at : FailsBelow (suc k) (x ∷ xs)
+              at zero y l h = let d : x ≡ y = cc h in sym (ap p d) ∙ here
+              at (suc q) y l h = none q y (omega (arith, l)) h
+
+-- ---- names by their numbers
+
+-- a name has its own characters
+same : (name : List ℕ) → bytes_eq name name ≡ true
+same name = (bytes_eq-Decides name name).1 refl
+
+not_passing : (name : List ℕ) → ¬ (bytes_eq name name ≡ false)
+not_passing name h = let e : true ≡ false = sym (same name) ∙ h in cc e
+
+-- what a look-up in the numbers of the names answers
+pub some_first : (numbers : BTreeMap (Bor (List ℕ)) ℕ) (names : List (List ℕ)) (name : List ℕ) (result : Option ℕ) → AreNumbersOf numbers names → result ≡ number_in numbers name → IfSome result (λ r. IsFirstAt names name r)
+some_first numbers names name None h e = tt
+some_first numbers names name (Some r) h e = at (first_passes (bytes_eq name) 0 names r (sym (e ∙ h name)))
+  where
+    at : IsFirst (bytes_eq name) 0 names r → IsFirstAt names name r
+    at (k, n, (x, there, passes), none) =
+        let d : name ≡ x = (bytes_eq-Decides name x).0 passes in
+        let m : k ≡ r = omega (arith, n) in
+        (subst (λ (i : ℕ). slice_get names i ≡ Some name) m (there ∙ ap Some (sym d)), λ q l h. not_passing name (none q name (omega (arith, l, m)) h))
+
+pub none_first : (numbers : BTreeMap (Bor (List ℕ)) ℕ) (names : List (List ℕ)) (name : List ℕ) (result : Option ℕ) → AreNumbersOf numbers names → result ≡ number_in numbers name → IfNone result ((r : ℕ) → slice_get names r ≢ Some name)
+none_first numbers names name (Some r) h e = tt
+none_first numbers names name None h e = λ r k. not_passing name (none_passes (bytes_eq name) 0 names (sym (e ∙ h name)) r name k)
+
+-- one more name at the end
+pub one_more_name : (old new : BTreeMap (Bor (List ℕ)) ℕ) (names : List (List ℕ)) (name : List ℕ) (number : ℕ) → number ≡ length names → AreNumbersOf old names → AddsFirst old new name number → AreNumbersOf new (names ++ name ∷ [])
+one_more_name old new names name number n h a other =
+    a other ∙ ap (λ o. option_or o (cond (bytes_eq other name) (Some number) None)) (h other) ∙ ap (λ m. option_or (position_from (bytes_eq other) 0 names) (cond (bytes_eq other name) (Some m) None)) (omega (arith, n)) ∙ sym (position_push (bytes_eq other) 0 names name)
+
+module _ (old : BTreeMap (Bor (List ℕ)) ℕ) (name : List ℕ) (number : ℕ) where
+  -- a name that has a number keeps it
+  pub added_before : is_some (number_in old name) ≡ true → AddsFirst old old name number
+  added_before has other = by_name (bytes_eq other name) refl (number_in old other) refl
+    where
+      by_name : (b : Bool) → bytes_eq other name ≡ b → (o : Option ℕ) → number_in old other ≡ o → o ≡ option_or o (cond b (Some number) None)
+      by_name b e (Some r) f = refl
+      by_name false e None f = refl
+      by_name true e None f =
+          let d : other ≡ name = (bytes_eq-Decides other name).0 e in
+          let n : None ≡ number_in old name = sym f ∙ ap (λ x. number_in old x) d in
+          let t : true ≡ false = sym has ∙ ap is_some (sym n) in
+          cc t
+
+  -- a name that has none gets this one
+  pub added_now : (new : BTreeMap (Bor (List ℕ)) ℕ) → is_some (number_in old name) ≡ false → UpdatesBy (λ x y. slice_cmp nat_cmp x.now y.now) (λ k. slice_cmp nat_cmp name k.now) old new (Some number) → AddsFirst old new name number
+  added_now new lacks updates other = btree_map_updates_str name old new (Some number) updates other ∙ by_name (bytes_eq other name) refl (bytes_eq name other) refl (number_in old other) refl
+    where
+      by_name : (b : Bool) → bytes_eq other name ≡ b → (c : Bool) → bytes_eq name other ≡ c → (o : Option ℕ) → number_in old other ≡ o → cond c (Some number) o ≡ option_or o (cond b (Some number) None)
+      by_name true e true g None f = refl
+      by_name false e false g None f = refl
+      by_name false e false g (Some r) f = refl
+      by_name true e false g o f =
+          let d : other ≡ name = (bytes_eq-Decides other name).0 e in
+          let t : true ≡ false = sym ((bytes_eq-Decides name other).1 (sym d)) ∙ g in
+          absurd (cc t)
+      by_name false e true g o f =
+          let d : name ≡ other = (bytes_eq-Decides name other).0 g in
+          let t : true ≡ false = sym ((bytes_eq-Decides other name).1 (sym d)) ∙ e in
+          absurd (cc t)
+      by_name true e true g (Some r) f =
+          let d : other ≡ name = (bytes_eq-Decides other name).0 e in
+          let t : true ≡ false = sym (ap is_some (ap (λ x. number_in old x) (sym d) ∙ f)) ∙ lacks in
+          absurd (cc t)
+
+-- ---- names in a grammar
+
+module _ (g : Grammar) (name : List ℕ) where
+  -- the rule with this number has the name
+  pub named_at : (r : ℕ) → slice_get (names_of g.rules) r ≡ Some name → IsNamed g r name
+  named_at r e = by_rule (slice_get g.rules r) refl (sym (slice_get-map (λ (rule : Rule). rule.name) g.rules r) ∙ e)
+    where
+      by_rule : (o : Option Rule) → slice_get g.rules r ≡ o → option_map (λ (rule : Rule). rule.name) o ≡ Some name → IsNamed g r name
+      by_rule None f h = absurd (cc h)
+      by_rule (Some rule) f h = let d : rule.name ≡ name = cc h in (rule, f, d)
+
+  -- the name stands at the number of a rule that has it
+  pub name_at : (r : ℕ) → IsNamed g r name → slice_get (names_of g.rules) r ≡ Some name
+  name_at r (rule, e, d) = slice_get-map (λ (rule : Rule). rule.name) g.rules r ∙ ap (option_map (λ (rule : Rule). rule.name)) e ∙ ap Some d
+
+  -- the first rule with the name has it
+  pub first_is_named : (r : ℕ) → IsFirstAt (names_of g.rules) name r → IsNamed g r name
+  first_is_named r h = named_at r h.0
+
+  -- a name that is not among the names of the rules is not defined
+  pub absent_is_undefined : ((r : ℕ) → slice_get (names_of g.rules) r ≢ Some name) → ¬ (IsDefined g name)
+  absent_is_undefined none (r, h) = none r (name_at r h)
