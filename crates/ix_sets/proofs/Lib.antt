@@ -1,0 +1,5 @@
+mod Apart
+mod Choosing
+mod Categories
+mod Gaining
+mod Parts

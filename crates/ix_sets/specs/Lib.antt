@@ -1,0 +1,3 @@
+pub mod CharRanges
+pub mod Gains
+pub mod SetOf

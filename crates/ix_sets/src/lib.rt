@@ -1,0 +1,8 @@
+//! The characters that a set of a grammar matches, as sorted ranges.
+#![tactic(auto)]
+
+mod class;
+mod members;
+mod set;
+
+pub use set::build;

@@ -1,0 +1,82 @@
+//! The members of a set, as ranges in any order, which may overlap or touch.
+
+ghost use Rattle.std.specs.Prelude.{◌≡◌, ◌≤◌, OnOk};
+ghost use Rattle.std.specs.List.{AllByRecursion, flat_map};
+ghost use Rattle.ix_model.specs.Breach.{IsCodePoint};
+ghost use Rattle.ix_model.specs.Codes.{code_value, bound_value};
+ghost use Rattle.ix_model.specs.Factors.{codes_of_bound, codes_of_member};
+ghost use Rattle.ix_model.specs.Sets.{IsOneOf, IsOfMember, IsOfSome};
+ghost use Rattle.ix_model.specs.Spells.{IsHex};
+ghost use Rattle.ix_sets.specs.Gains.{Gains};
+
+use crate::class::push_class;
+use ix_model::{Bound, Member, code_point};
+use std::alloc::{AllocError, Global};
+
+/// The number in hexadecimal digits, where a character has it.
+fn number(digits: &[char]) -> u32
+    requires hex { IsHex digits.now }
+    requires code_point { IsCodePoint digits.now }
+    ensures { result ≡ code_value digits.now }
+{
+    code_point(digits).unwrap() as u32
+}
+
+/// The number of a bound's character.
+fn bound_number(bound: &Bound) -> u32
+    requires numbers { AllByRecursion IsHex (codes_of_bound bound.now) }
+    requires code_points { AllByRecursion IsCodePoint (codes_of_bound bound.now) }
+    ensures { result ≡ bound_value bound.now }
+{
+    match bound {
+        Bound::Quoted(c) => *c as u32,
+        Bound::Code(digits) => number(digits.as_slice()),
+    }
+}
+
+/// Adds the characters from `low` to `high`, both included; where `low` is greater, none.
+fn push_range(ranges: &mut Vec<(u32, u32)>, low: u32, high: u32) -> Result<(), AllocError>
+    ensures { OnOk result (Gains ranges.old.items ranges.new.items (λ c. (low ≤ c) × (c ≤ high))) }
+{
+    ranges.push((low, high))?;
+    Ok(())
+}
+
+/// Adds each character of a string.
+fn push_text(ranges: &mut Vec<(u32, u32)>, text: &[char]) -> Result<(), AllocError>
+    ensures { OnOk result (Gains ranges.old.items ranges.new.items (λ c. IsOneOf c text.now)) }
+{
+    for c in text {
+        push_range(ranges, *c as u32, *c as u32)?;
+    }
+    Ok(())
+}
+
+/// Adds the characters of a member.
+fn push_member(ranges: &mut Vec<(u32, u32)>, member: &Member) -> Result<(), AllocError>
+    requires numbers { AllByRecursion IsHex (codes_of_member member.now) }
+    requires code_points { AllByRecursion IsCodePoint (codes_of_member member.now) }
+    ensures { OnOk result (Gains ranges.old.items ranges.new.items (λ c. IsOfMember c member.now)) }
+{
+    match member {
+        Member::Quoted(text) => push_text(ranges, text.as_slice()),
+        Member::Code(digits) => {
+            let c = number(digits.as_slice());
+            push_range(ranges, c, c)
+        }
+        Member::Range { low, high } => push_range(ranges, bound_number(low), bound_number(high)),
+        Member::Class(name) => push_class(ranges, name.as_slice()),
+    }
+}
+
+/// Adds the characters of the members.
+pub fn push_members(ranges: &mut Vec<(u32, u32)>, members: &[Member]) -> Result<(), AllocError>
+    requires numbers { AllByRecursion IsHex (flat_map codes_of_member members.now) }
+    requires code_points { AllByRecursion IsCodePoint (flat_map codes_of_member members.now) }
+    ensures { OnOk result (Gains ranges.old.items ranges.new.items (λ c. IsOfSome c members.now)) }
+{
+    for member in members {
+        push_member(ranges, member)?;
+    }
+    Ok(())
+}
