@@ -1,6 +1,7 @@
 //! The slots of numbered rules, and where their terminals match in a text.
 #![tactic(auto)]
 
+pub mod laws;
 mod matching;
 mod numbering;
 mod parts;
@@ -9,3 +10,6 @@ mod planning;
 pub use matching::matches;
 pub use parts::{Parts, Unplanned};
 pub use planning::{into_parts, plan};
+
+#[cfg(test)]
+mod tests;
