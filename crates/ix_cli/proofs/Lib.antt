@@ -8,3 +8,4 @@ pub mod Refusing
 pub mod Replies
 pub mod SmallReplies
 pub mod Statuses
+pub mod TermNumbers

@@ -6,8 +6,9 @@ use Rattle.ix_edge.specs.Told.{Told, held, Loads}
 use Rattle.ix_model.specs.declared.grammar.Grammar.{Grammar}
 use Rattle.ix_engine.specs.declared.refusal.Refusal.{Refusal}
 use Rattle.ix_engine.specs.declared.refusal.Refusal.TheVariants as refusal
-use Rattle.ix_model.specs.Answer.{HoldsGrammar}
-use Rattle.ix_engine.specs.Compiled.{IsRefused}
+use Rattle.ix_model.specs.Answer.{HoldsConforming, GrammarRefused}
+use Rattle.ix_model.specs.Outcome.{Outcome, grammar_too_long, grammar_not_utf8, no_grammar, too_deep, not_conforming}
+use Rattle.ix_engine.specs.Compiled.{outcome_of, IsRefused}
 use Rattle.ix_cli.specs.Loaded.{Holds, IsGrammarFault}
 use Rattle.ix_cli.specs.Refusals.{of_refusal}
 
@@ -40,22 +41,42 @@ module _ (most : ℕ) (Q : List ℕ → Type 0) (short : (bytes : List ℕ) → 
   pub whole_is_not : (v bytes : List ℕ) → v ≡ take (most + 1) bytes → ¬ (Q v) → ¬ (Q bytes)
   whole_is_not v bytes e never q = never (subst Q (sym (e ∙ take_all (most + 1) bytes (omega (arith, short bytes q)))) q)
 
--- a grammar that was loaded is that of the whole file
-pub compiled_whole : (g : Grammar) (v bytes : List ℕ) → v ≡ take 1048577 bytes → HoldsGrammar v g → HoldsGrammar bytes g
-compiled_whole g v bytes e h = (whole_is 1048576 (λ b. HoldsGrammar b g) (λ b k. k.0.0) v bytes e h).1
+-- a conforming grammar that was loaded is that of the whole file
+pub compiled_whole : (g : Grammar) (v bytes : List ℕ) → v ≡ take 1048577 bytes → HoldsConforming v g → HoldsConforming bytes g
+compiled_whole g v bytes e h = (whole_is 1048576 (λ b. HoldsConforming b g) (λ b k. k.0.0.0) v bytes e h).1
 
--- and so is why it is none
+-- and so is why there is none
+outcome_whole : (o : Outcome) (v bytes : List ℕ) → v ≡ take 1048577 bytes → GrammarRefused v o → GrammarRefused bytes o
+outcome_whole grammar_too_long v bytes e h = omega (arith, h, ap length e, length-take 1048577 bytes)
+outcome_whole (grammar_not_utf8 valid) v bytes e h = (whole_is 1048576 (λ b. GrammarRefused b (grammar_not_utf8 valid)) (λ b k. k.0) v bytes e h).1
+outcome_whole no_grammar v bytes e h = (whole_is 1048576 (λ b. GrammarRefused b no_grammar) (λ b k. k.0.0) v bytes e h).1
+outcome_whole too_deep v bytes e h = (whole_is 1048576 (λ b. GrammarRefused b too_deep) (λ b k. k.0.0) v bytes e h).1
+outcome_whole (not_conforming fault) v bytes e h = (whole_is 1048576 (λ b. GrammarRefused b (not_conforming fault)) (λ b k. k.1.0.0) v bytes e h).1
+outcome_whole o v bytes e h = absurd h
+
 pub refused_whole : (r : Refusal) (v bytes : List ℕ) → v ≡ take 1048577 bytes → IsRefused v r → IsRefused bytes r
-refused_whole refusal.FileTooLong v bytes e h = omega (arith, h, ap length e, length-take 1048577 bytes)
-refused_whole (refusal.NotUtf8 valid) v bytes e h = (whole_is 1048576 (λ b. IsRefused b (refusal.NotUtf8 valid)) (λ b k. k.0) v bytes e h).1
-refused_whole refusal.NotIxml v bytes e h = (whole_is 1048576 (λ b. IsRefused b refusal.NotIxml) (λ b k. k.0.0) v bytes e h).1
-refused_whole refusal.TooDeep v bytes e h = (whole_is 1048576 (λ b. IsRefused b refusal.TooDeep) (λ b k. k.0.0) v bytes e h).1
+refused_whole refusal.FileTooLong v bytes e h = outcome_whole (outcome_of refusal.FileTooLong) v bytes e h
+refused_whole (refusal.NotUtf8 valid) v bytes e h = outcome_whole (outcome_of (refusal.NotUtf8 valid)) v bytes e h
+refused_whole refusal.NotIxml v bytes e h = outcome_whole (outcome_of refusal.NotIxml) v bytes e h
+refused_whole refusal.TooDeep v bytes e h = outcome_whole (outcome_of refusal.TooDeep) v bytes e h
+refused_whole (refusal.Version text) v bytes e h = outcome_whole (outcome_of (refusal.Version text)) v bytes e h
+refused_whole (refusal.CodePoint digits) v bytes e h = outcome_whole (outcome_of (refusal.CodePoint digits)) v bytes e h
+refused_whole (refusal.Range low high) v bytes e h = outcome_whole (outcome_of (refusal.Range low high)) v bytes e h
+refused_whole (refusal.Class name) v bytes e h = outcome_whole (outcome_of (refusal.Class name)) v bytes e h
+refused_whole (refusal.Undefined name) v bytes e h = outcome_whole (outcome_of (refusal.Undefined name)) v bytes e h
+refused_whole (refusal.Duplicate name) v bytes e h = outcome_whole (outcome_of (refusal.Duplicate name)) v bytes e h
 refused_whole refusal.Memory v bytes e h = tt
 
 -- the answer that a refused grammar is has its cause
 pub refusal_caused : (told : Option Told) (old new : List ℕ → ℕ) (name : List ℕ) (r : Refusal) → Holds told name (λ bytes. IsRefused bytes r) → IsGrammarFault told old new name (of_refusal r)
-refusal_caused told old new name refusal.Memory h = tt
 refusal_caused told old new name refusal.FileTooLong h = ((λ e. cc e), h)
 refusal_caused told old new name (refusal.NotUtf8 valid) h = ((λ e. cc e), h)
 refusal_caused told old new name refusal.NotIxml h = ((λ e. cc e), h)
 refusal_caused told old new name refusal.TooDeep h = ((λ e. cc e), h)
+refusal_caused told old new name (refusal.Version text) h = ((λ e. cc e), h)
+refusal_caused told old new name (refusal.CodePoint digits) h = ((λ e. cc e), h)
+refusal_caused told old new name (refusal.Range low high) h = ((λ e. cc e), h)
+refusal_caused told old new name (refusal.Class called) h = ((λ e. cc e), h)
+refusal_caused told old new name (refusal.Undefined called) h = ((λ e. cc e), h)
+refusal_caused told old new name (refusal.Duplicate called) h = ((λ e. cc e), h)
+refusal_caused told old new name refusal.Memory h = tt

@@ -1,19 +1,15 @@
 -- The table has at most one answer for the words and the files.
-use Rattle.std.proofs.Common.{◌≡◌, ◌≢◌, arith, refl, sym, ap, ◌∙◌, subst, ℕ, List, [], ◌∷◌, codes}
+use Rattle.std.proofs.Common.{◌≡◌, refl, sym, ap, ◌∙◌, subst, ℕ, List, [], ◌∷◌, codes}
 use mathlib.Core.Logic.{inl, inr}
 use Rattle.ix_model.specs.declared.grammar.Grammar.{Grammar}
 use Rattle.ix_model.specs.declared.state.State.TheVariants.{Single}
 use Rattle.ix_model.specs.Gives.{gives_root}
 use Rattle.ix_edge.specs.Told.{Told}
 use Rattle.ix_model.specs.Decoding.{decoded}
-use Rattle.ix_model.specs.Depth.{depth}
-use Rattle.ix_model.specs.Answer.{HoldsGrammar}
+use Rattle.ix_model.specs.Answer.{HoldsConforming}
 use Rattle.ix_model.specs.Outcome.{document}
+use Rattle.ix_model.proofs.OneAnswer.{refused_once, refused_or_held}
 use Rattle.ix_model.proofs.ReadingComplete.{spelled_once}
-use Rattle.ix_engine.specs.declared.refusal.Refusal.{Refusal}
-use Rattle.ix_engine.specs.declared.refusal.Refusal.TheVariants as refusal
-use Rattle.ix_engine.specs.Compiled.{IsRefused}
-use Rattle.ix_cli.specs.Refusals.{outcome_of}
 use Rattle.ix_cli.specs.Reply.{Reply, reply, not_built, IsTextReply, HeldReply, GrammarReply, IsFilesReply, IsReply}
 use Rattle.ix_cli.proofs.Lists.{some_is}
 
@@ -27,38 +23,9 @@ one_text_reply g s not_built (reply (document ys Single)) h l = absurd (h (l.0, 
 one_text_reply g s not_built (reply o) h l = absurd l
 one_text_reply g s not_built not_built h l = refl
 
--- a grammar is refused in one way
-refused_once : (bytes : List ℕ) (r q : Refusal) → r ≢ refusal.Memory → q ≢ refusal.Memory → IsRefused bytes r → IsRefused bytes q → r ≡ q
-refused_once bytes refusal.Memory q n m h l = absurd (n refl)
-refused_once bytes r refusal.Memory n m h l = absurd (m refl)
-refused_once bytes refusal.FileTooLong refusal.FileTooLong n m h l = refl
-refused_once bytes refusal.FileTooLong (refusal.NotUtf8 v) n m h l = absurd (omega (arith, h, l.0))
-refused_once bytes refusal.FileTooLong refusal.NotIxml n m h l = absurd (omega (arith, h, l.0.0))
-refused_once bytes refusal.FileTooLong refusal.TooDeep n m h l = absurd (omega (arith, h, l.0.0))
-refused_once bytes (refusal.NotUtf8 v) refusal.FileTooLong n m h l = absurd (omega (arith, h.0, l))
-refused_once bytes (refusal.NotUtf8 v) (refusal.NotUtf8 w) n m h l = ap refusal.NotUtf8 (h.2 ∙ sym l.2)
-refused_once bytes (refusal.NotUtf8 v) refusal.NotIxml n m h l = absurd (h.1 l.0.1)
-refused_once bytes (refusal.NotUtf8 v) refusal.TooDeep n m h l = absurd (h.1 l.0.1)
-refused_once bytes refusal.NotIxml refusal.FileTooLong n m h l = absurd (omega (arith, h.0.0, l))
-refused_once bytes refusal.NotIxml (refusal.NotUtf8 w) n m h l = absurd (l.1 h.0.1)
-refused_once bytes refusal.NotIxml refusal.NotIxml n m h l = refl
-refused_once bytes refusal.NotIxml refusal.TooDeep n m h l = absurd (h.1 l.1 l.2)
-refused_once bytes refusal.TooDeep refusal.FileTooLong n m h l = absurd (omega (arith, h.0.0, l))
-refused_once bytes refusal.TooDeep (refusal.NotUtf8 w) n m h l = absurd (l.1 h.0.1)
-refused_once bytes refusal.TooDeep refusal.NotIxml n m h l = absurd (l.1 h.1 h.2)
-refused_once bytes refusal.TooDeep refusal.TooDeep n m h l = refl
-
--- and holds at most one
-held_once : (bytes : List ℕ) (g h : Grammar) → HoldsGrammar bytes g → HoldsGrammar bytes h → g ≡ h
-held_once bytes g h x y = spelled_once (decoded bytes) g h x.1 y.1
-
--- what holds a grammar is not refused
-not_both : (bytes : List ℕ) (g : Grammar) (r : Refusal) → r ≢ refusal.Memory → HoldsGrammar bytes g → IsRefused bytes r → ⊥
-not_both bytes g refusal.FileTooLong n x h = omega (arith, x.0.0, h)
-not_both bytes g (refusal.NotUtf8 v) n x h = h.1 x.0.1
-not_both bytes g refusal.NotIxml n x h = h.1 g x.1
-not_both bytes g refusal.TooDeep n x h = omega (arith, x.2, h.3, ap depth (spelled_once (decoded bytes) g h.1 x.1 h.2))
-not_both bytes g refusal.Memory n x h = n refl
+-- bytes hold at most one grammar
+held_once : (bytes : List ℕ) (g h : Grammar) → HoldsConforming bytes g → HoldsConforming bytes h → g ≡ h
+held_once bytes g h x y = spelled_once (decoded bytes) g h x.0.1 y.0.1
 
 -- the reply for a grammar that is held
 one_held : (told : Told) (text : List ℕ) (g : Grammar) (r q : Reply) → HeldReply told text g r → HeldReply told text g q → r ≡ q
@@ -70,9 +37,9 @@ one_held told text g r q (inr h) (inr l) =
 
 -- the reply for a grammar file
 one_grammar : (told : Told) (text bytes : List ℕ) (r q : Reply) → GrammarReply told text bytes r → GrammarReply told text bytes q → r ≡ q
-one_grammar told text bytes r q (inl h) (inl l) = h.3 ∙ ap (λ x. reply (outcome_of x)) (refused_once bytes h.0 l.0 h.1 l.1 h.2 l.2) ∙ sym l.3
-one_grammar told text bytes r q (inl h) (inr l) = absurd (not_both bytes l.0 h.0 h.1 l.1 h.2)
-one_grammar told text bytes r q (inr h) (inl l) = absurd (not_both bytes h.0 l.0 l.1 h.1 l.2)
+one_grammar told text bytes r q (inl h) (inl l) = h.2 ∙ ap reply (refused_once bytes h.0 l.0 h.1 l.1) ∙ sym l.2
+one_grammar told text bytes r q (inl h) (inr l) = absurd (refused_or_held bytes h.0 l.0 h.1 l.1)
+one_grammar told text bytes r q (inr h) (inl l) = absurd (refused_or_held bytes l.0 h.0 l.1 h.1)
 one_grammar told text bytes r q (inr h) (inr l) =
     one_held told text h.0 r q h.2 (subst (λ g. HeldReply told text g q) (held_once bytes l.0 h.0 l.1 h.1) l.2)
 

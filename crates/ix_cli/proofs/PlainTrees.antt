@@ -1,15 +1,15 @@
 -- Derivations of a grammar with one plain rule: one for each alternative that derives the text, and what they give.
-use Rattle.std.proofs.Common.{◌≡◌, refl, ap, ap₂, sym, subst, ◌∙◌, ◌-◌, ◌≤◌, ℕ, zero, suc, true, List, [], ◌∷◌, ◌++◌, length, take, drop, None, Some, unwrap_or, option_map, option_and_then, slice_get, get_or, append-nil, arith}
+use Rattle.std.proofs.Common.{◌≡◌, refl, ap, ap₂, sym, subst, ◌∙◌, ◌-◌, ◌≤◌, ℕ, zero, suc, Bool, true, List, [], ◌∷◌, ◌++◌, length, take, drop, None, Some, unwrap_or, option_map, option_and_then, slice_get, get_or, append-nil, arith}
 use Rattle.std.proofs.Math.Seq.{take-add, take-length}
 use mathlib.Core.Logic.{inl, inr}
-use denote.Hole.Carrier.{out}
 use Rattle.ix_model.specs.declared.grammar.Grammar.{Grammar}
 use Rattle.ix_model.specs.declared.grammar.Rule.{Rule}
 use Rattle.ix_model.specs.declared.grammar.Alt.{Alt}
-use Rattle.ix_model.specs.declared.grammar.Chars.TheVariants.{Quoted}
+use Rattle.ix_model.specs.declared.grammar.Chars.{Chars}
+use Rattle.ix_model.specs.declared.grammar.Member.{Member}
 use Rattle.ix_model.specs.declared.grammar.Term.{Term, One}
-use Rattle.ix_model.specs.declared.grammar.Factor.{Lit}
-use Rattle.ix_model.specs.declared.grammar.Factor.TheViews.{out-Factor, out-Term}
+use Rattle.ix_model.specs.declared.grammar.Factor.{Lit, Set}
+use Rattle.ix_model.specs.declared.grammar.Factor.TheViews.{out-Factor}
 use Rattle.ix_model.specs.Written.{IsAlternative}
 use Rattle.ix_model.specs.Plain.{IsPlain, ArePlain}
 use Rattle.ix_model.specs.Trees.{Tree, text, node, Trees, no_tree, and, tree_count}
@@ -19,8 +19,9 @@ use Rattle.ix_model.specs.Bare.{bare_text, none, more, join, no_term, factor_of,
 use Rattle.ix_model.specs.Gives.{nothing, followed, element, put_run, join_given, of_mark, values, gives_all, gives_root}
 use Rattle.ix_model.specs.declared.state.State.TheVariants.{Single}
 use Rattle.ix_model.specs.Xml.{xml}
-use Rattle.ix_model.proofs.Forms.{derived_form, one_form, factor_form, out_lit}
-use Rattle.ix_model.proofs.Lines.{matches_once, plain_tree, plain_at}
+use Rattle.ix_model.proofs.Forming.{factor_of_one}
+use Rattle.ix_model.proofs.Forms.{derived_form, out_lit, out_set}
+use Rattle.ix_model.proofs.Lines.{matches_once, plain_form, plain_tree, plain_at}
 use Rattle.ix_model.proofs.Runs.{AreTexts, AreTexts-join, values-join, gives_all-texts}
 use Rattle.ix_cli.specs.Once.{HasPlainRule, IsOnly, IsOnlyDocument, DerivesAs, IsOnlyAlternative}
 use Rattle.ix_cli.proofs.Alternatives.{plain_alt_at}
@@ -32,19 +33,25 @@ get_found [] n x e h = absurd (cc h)
 get_found (y ∷ ys) zero x e h = some_is h
 get_found (y ∷ ys) (suc n) x e h = get_found ys n x e h
 
--- a plain literal is shown
-shown_plain : (cs : List ℕ) → is_shown_in (out-Factor (factor_of (One (Lit None (Quoted cs))))) ≡ true
-unfolding out-Factor out factor_of out-Term
-shown_plain cs = refl
+-- a plain term is shown
+shown_plain : (t : Term) → IsPlain t → is_shown_in (out-Factor (factor_of t)) ≡ true
+shown_plain t (inl p) = ap (λ u. is_shown_in (out-Factor (factor_of u))) p.1 ∙ shown_literal p.0
+  where
+    shown_literal : (cs : Chars) → is_shown_in (out-Factor (factor_of (One (Lit None cs)))) ≡ true
+    shown_literal cs = ap (λ f. is_shown_in (out-Factor f)) (factor_of_one (Lit None cs)) ∙ ap is_shown_in (out_lit None cs)
+shown_plain t (inr p) = ap (λ u. is_shown_in (out-Factor (factor_of u))) p.2 ∙ shown_set p.0 p.1
+  where
+    shown_set : (exclude : Bool) (ms : List Member) → is_shown_in (out-Factor (factor_of (One (Set None exclude ms)))) ≡ true
+    shown_set exclude ms = ap (λ f. is_shown_in (out-Factor f)) (factor_of_one (Set None exclude ms)) ∙ ap is_shown_in (out_set None exclude ms)
 
 module _ (g : Grammar) (s : List ℕ) where
   bare_plain : (t : Term) (i j : ℕ) → IsPlain t → bare g (text i j) t ≡ more (bare_text i j true) none
-  bare_plain t i j p = ap (λ b. more (bare_text i j b) none) (ap (λ u. is_shown_in (out-Factor (factor_of u))) p.1 ∙ shown_plain p.0)
+  bare_plain t i j p = ap (λ b. more (bare_text i j b) none) (shown_plain t p)
 
   -- the one tree of a plain term is the text of its span
   plain_text : (d : Tree) (t : Term) (i j : ℕ) → IsPlain t → Derives g s d t i j → d ≡ text i j
   plain_text (text a b) t i j p h = ap₂ text h.0 h.1
-  plain_text d t i j p h = absurd (omega (arith, sym (derived_form g s d t i j h) ∙ one_form t _ 0 p.1 (ap factor_form (out_lit None (Quoted p.0)))))
+  plain_text d t i j p h = absurd (omega (arith, sym (derived_form g s d t i j h) ∙ plain_form t p))
 
   -- plain terms derive a text in at most one way
   same_line : (terms : List Term) (i : ℕ) → ArePlain terms → (ds es : Trees) (j k : ℕ) → tree_count ds ≡ tree_count es → DerivesFirst g s ds terms i j → DerivesFirst g s es terms i k → (ds ≡ es) × (j ≡ k)

@@ -8,7 +8,7 @@ use Rattle.ix_edge.specs.Told.{Told}
 use Rattle.ix_engine.specs.declared.refusal.Refusal.TheVariants as refusal
 use Rattle.ix_cli.specs.declared.answer.Answer.{Answer}
 use Rattle.ix_cli.specs.declared.answer.Answer.TheVariants as answer
-use Rattle.ix_cli.specs.Answered.{IsAnswered}
+use Rattle.ix_cli.specs.Answered.{IsAnswered, IsMessage}
 use Rattle.ix_cli.specs.Form.{HasSomeForm}
 use Rattle.ix_cli.specs.Refused.{IsRefused}
 use Rattle.ix_cli.specs.Reply.{Reply, reply, not_built, status_of, output_of, line_of, IsReply}
@@ -34,8 +34,19 @@ module _ (words : List (List ℕ)) (out mo mn : Option (List ℕ)) (before now :
   refused_answered told old new (answer.Grammar (refusal.NotUtf8 valid)) status h (inl r) a b c = replied told _ status h.2 r.0 refl r.1
   refused_answered told old new (answer.Grammar refusal.NotIxml) status h (inl r) a b c = replied told _ status h.2 r.0 refl r.1
   refused_answered told old new (answer.Grammar refusal.TooDeep) status h (inl r) a b c = replied told _ status h.2 r.0 refl r.1
+  refused_answered told old new (answer.Grammar (refusal.Version text)) status h (inl r) a b c = replied told _ status h.2 r.0 refl r.1
+  refused_answered told old new (answer.Grammar (refusal.CodePoint digits)) status h (inl r) a b c = replied told _ status h.2 r.0 refl r.1
+  refused_answered told old new (answer.Grammar (refusal.Range low high)) status h (inl r) a b c = replied told _ status h.2 r.0 refl r.1
+  refused_answered told old new (answer.Grammar (refusal.Class name)) status h (inl r) a b c = replied told _ status h.2 r.0 refl r.1
+  refused_answered told old new (answer.Grammar (refusal.Undefined name)) status h (inl r) a b c = replied told _ status h.2 r.0 refl r.1
+  refused_answered told old new (answer.Grammar (refusal.Duplicate name)) status h (inl r) a b c = replied told _ status h.2 r.0 refl r.1
   refused_answered told old new (answer.Grammar refusal.Memory) status h (inl r) a b c = absurd (h.1 refl)
   refused_answered told old new (answer.Read name) status h (inl r) a b c = absurd (a r.0)
   refused_answered told old new answer.Write status h (inl r) a b c = absurd (b r.0)
   refused_answered told old new answer.Memory status h (inl r) a b c = absurd (c r.0)
   refused_answered told old new a status h (inr r) b c d = absurd (d r.0)
+
+-- what a refusal says is the line of an answer that has its status
+pub refusal_told : (old new : Option (List ℕ)) (before now : ℕ) (a : Answer) (status : ℕ) → Refuses old new before now a status → IsMessage status (Says old new before now)
+refusal_told old new before now a status (inl r) = inr (a, r.0, r.1)
+refusal_told old new before now a status (inr r) = inr (answer.Memory, r.0, r.1)

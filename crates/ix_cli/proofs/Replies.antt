@@ -7,8 +7,9 @@ use Rattle.ix_model.specs.declared.grammar.Grammar.{Grammar}
 use Rattle.ix_model.specs.Trees.{Tree}
 use Rattle.ix_edge.specs.Causes.{Rose}
 use Rattle.ix_edge.specs.Told.{Told}
-use Rattle.ix_model.specs.Answer.{HoldsGrammar}
+use Rattle.ix_model.specs.Answer.{HoldsConforming}
 use Rattle.ix_model.specs.Outcome.{document}
+use Rattle.ix_engine.specs.Compiled.{outcome_of}
 use Rattle.ix_model.specs.declared.state.State.TheVariants.{Single}
 use Rattle.ix_model.specs.Gives.{gives_root}
 use Rattle.ix_cli.specs.declared.answer.Answer.{Answer}
@@ -33,7 +34,7 @@ module _ (words : List (List ℕ)) (grammar text : List ℕ) (form : HasForm wor
       ((grammar, text, form), inr (grammar, text, form, (h.0, h.1, inr (h.2.0, h.2.1, inl (h.2.2, refl)))))
   grammar_refused None old new (answer.Grammar r) h = ((grammar, text, form), h.0, tt)
   grammar_refused (Some files) old new (answer.Grammar r) h =
-      ((grammar, text, form), h.0, inr (grammar, text, form, (h.1.0, h.1.1, inl (r, h.0, h.1.2, refl))))
+      ((grammar, text, form), h.0, inr (grammar, text, form, (h.1.0, h.1.1, inl (outcome_of r, h.1.2, refl))))
   grammar_refused told old new (answer.Read name) h =
       (grammar, text, form, subst (λ n. Rose (old n) (new n)) (sym h.0) h.1, inl h.0)
   grammar_refused told old new answer.Memory h = tt
@@ -42,7 +43,7 @@ module _ (words : List (List ℕ)) (grammar text : List ℕ) (form : HasForm wor
 
   module _ (g : Grammar) (plain : IsPlainGrammar g) where
     -- a text that was not loaded
-    pub text_refused : (told : Option Told) (old mid new : List ℕ → ℕ) (a : Answer) → Holds told grammar (λ bytes. HoldsGrammar bytes g) → old text ≤ mid text →
+    pub text_refused : (told : Option Told) (old mid new : List ℕ → ℕ) (a : Answer) → Holds told grammar (λ bytes. HoldsConforming bytes g) → old text ≤ mid text →
         IsTextFault told mid new text a → IsRefused words told old new a
     text_refused None old mid new answer.NotBuilt s l h = ((grammar, text, form), tt)
     text_refused (Some files) old mid new answer.NotBuilt s l h =
@@ -57,24 +58,24 @@ module _ (words : List (List ℕ)) (grammar text : List ℕ) (form : HasForm wor
     text_refused told old mid new answer.Write s l h = absurd h
 
     -- the reply for a text that was loaded
-    text_reply : (files : Told) (chars : List ℕ) (answer : Reply) → Holds (Some files) grammar (λ bytes. HoldsGrammar bytes g) →
+    text_reply : (files : Told) (chars : List ℕ) (answer : Reply) → Holds (Some files) grammar (λ bytes. HoldsConforming bytes g) →
         Holds (Some files) text (λ bytes. (bytes ≡ chars) × IsPlainText bytes) → (IsPlainText chars → IsTextReply g chars answer) → IsReply words files answer
     text_reply files chars answer s h r =
         inr (grammar, text, form, (s.0, s.1, inr (g, s.2, inr (plain, (chars, h.1 ∙ ap Some h.2.0, r (subst IsPlainText h.2.0 h.2.1))))))
 
-    pub document_replied : (told : Option Told) (chars bytes : List ℕ) → Holds told grammar (λ b. HoldsGrammar b g) →
+    pub document_replied : (told : Option Told) (chars bytes : List ℕ) → Holds told grammar (λ b. HoldsConforming b g) →
         Holds told text (λ b. (b ≡ chars) × IsPlainText b) → IsOnlyDocument g chars bytes → IfSome told (λ files. HasDocument words files bytes)
     document_replied None chars bytes s h d = tt
     document_replied (Some files) chars bytes s h d =
         (gives_root chars g d.0, text_reply files chars (reply (document (gives_root chars g d.0) Single)) s h (λ p. (p, (d.0, d.1, refl))), d.2)
 
-    not_one_replied : (told : Option Told) (chars : List ℕ) → Holds told grammar (λ b. HoldsGrammar b g) →
+    not_one_replied : (told : Option Told) (chars : List ℕ) → Holds told grammar (λ b. HoldsConforming b g) →
         Holds told text (λ b. (b ≡ chars) × IsPlainText b) → ((d : Tree) → IsOnly g chars d → ⊥) → IfSome told (λ files. IsReply words files not_built)
     not_one_replied None chars s h n = tt
     not_one_replied (Some files) chars s h n = text_reply files chars not_built s h (λ p q. n q.1.0 q.1.1)
 
     -- the answer of the search
-    pub search_refused : (told : Option Told) (old new : List ℕ → ℕ) (chars : List ℕ) (r : Result (String Global) Answer) → Holds told grammar (λ b. HoldsGrammar b g) →
+    pub search_refused : (told : Option Told) (old new : List ℕ → ℕ) (chars : List ℕ) (r : Result (String Global) Answer) → Holds told grammar (λ b. HoldsConforming b g) →
         Holds told text (λ b. (b ≡ chars) × IsPlainText b) → IfErr r (λ a. (a ≡ answer.NotBuilt) ⊎ (a ≡ answer.Memory)) →
         (r ≡ Err answer.NotBuilt → (d : Tree) → IsOnly g chars d → ⊥) → IfErr r (IsRefused words told old new)
     search_refused told old new chars (Ok v) s h e n = tt

@@ -16,12 +16,12 @@ use Rattle.ix_model.specs.Gives.{Givens, nothing, gives_root}
 use Rattle.ix_model.specs.Xml.{xml}
 use Rattle.ix_model.proofs.SmallTexts.{a_derives, one_a, earlier_derives, later_derives, first}
 use Rattle.ix_model.specs.declared.grammar.Grammar.{Grammar}
-use Rattle.ix_model.specs.Answer.{HoldsGrammar}
+use Rattle.ix_model.specs.declared.grammar.Chars.TheVariants.{Quoted}
+use Rattle.ix_model.specs.Answer.{HoldsConforming}
 use Rattle.ix_model.specs.Outcome.{document, no_grammar}
 use Rattle.ix_model.specs.ExampleAnswers.{parse_g_t, one_way, both_ways}
 use Rattle.ix_model.proofs.ByReading.{reads, reads_none}
-use Rattle.ix_model.proofs.Answers.{shallow_a, shallow_both}
-use Rattle.ix_engine.specs.declared.refusal.Refusal.TheVariants as refusal
+use Rattle.ix_model.proofs.Answers.{only_a_conforms, two_ways_conforms, shallow_a, shallow_both}
 use Rattle.ix_cli.specs.Answered.{IsAnswered, IsCutOff}
 use Rattle.ix_cli.specs.Examples.{holding, raised, no_count}
 use Rattle.ix_cli.specs.Form.{HasForm}
@@ -35,32 +35,32 @@ use Rattle.ix_cli.proofs.OneReply.{one_reply}
 pub has_form : HasForm parse_g_t (codes "g") (codes "t")
 has_form = (refl, (λ e. omega (arith, e)), (λ e. omega (arith, e)))
 
-holds_one_way : HoldsGrammar one_way grammars.only_a
+holds_one_way : HoldsConforming one_way grammars.only_a
 unfolding is_blank is_name_start is_name_part general_category value_in general_category_rows chars encode
-holds_one_way = ((omega arith, (one_way, (refl, refl))), reads _ _ refl, shallow_a)
+holds_one_way = (((omega arith, (one_way, (refl, refl))), reads _ _ refl, shallow_a), only_a_conforms)
 
-holds_both_ways : HoldsGrammar both_ways grammars.two_ways
+holds_both_ways : HoldsConforming both_ways grammars.two_ways
 unfolding is_blank is_name_start is_name_part general_category value_in general_category_rows chars encode
-holds_both_ways = ((omega arith, (both_ways, (refl, refl))), reads _ _ refl, shallow_both)
+holds_both_ways = (((omega arith, (both_ways, (refl, refl))), reads _ _ refl, shallow_both), two_ways_conforms)
 
 pub no_grammar_here : IsReply parse_g_t (holding [] (codes "a")) (reply no_grammar)
 unfolding is_blank is_name_start is_name_part general_category value_in general_category_rows chars encode
-no_grammar_here = inr (codes "g", codes "t", has_form, ([], refl, inl (refusal.NotIxml, (λ e. cc e), ((omega arith, ([], (refl, refl))), reads_none _ refl), refl)))
+no_grammar_here = inr (codes "g", codes "t", has_form, ([], refl, inl (no_grammar, ((omega arith, ([], (refl, refl))), reads_none _ refl), refl)))
 
 pub only_a_is_plain : HasPlainRule grammars.only_a (grammars.rule (codes "S") (grammars.alternative (grammars.quoted (codes "a") ∷ []) ∷ []))
-only_a_is_plain = (refl, refl, (((codes "a", refl), tt), tt))
+only_a_is_plain = (refl, refl, ((inl (Quoted (codes "a"), refl), tt), tt))
 
 one_document : codes "<S>a</S>\n" ≡ xml (gives_root (codes "a") grammars.only_a a_tree) Single
 unfolding encode
 one_document = sym (ap (λ given. xml given Single) (gives_root-plain grammars.only_a (codes "a") _ only_a_is_plain a_tree a_derives))
 
 both_are_plain : HasPlainRule grammars.two_ways (grammars.rule (codes "S") (grammars.alternative (grammars.quoted (codes "a") ∷ []) ∷ grammars.alternative (grammars.quoted (codes "a") ∷ []) ∷ []))
-both_are_plain = (refl, refl, (((codes "a", refl), tt), (((codes "a", refl), tt), tt)))
+both_are_plain = (refl, refl, ((inl (Quoted (codes "a"), refl), tt), ((inl (Quoted (codes "a"), refl), tt), tt)))
 
 -- the files hold a text for `S: "a".`
 under_one_way : (s : List ℕ) (r : Reply) → IsTextReply grammars.only_a s r → IsReply parse_g_t (holding one_way s) r
 under_one_way s r h =
-    inr (codes "g", codes "t", has_form, (one_way, refl, inr (grammars.only_a, holds_one_way, inr ((refl, (_, only_a_is_plain, (refl, tt))), (s, refl, h)))))
+    inr (codes "g", codes "t", has_form, (one_way, refl, inr (grammars.only_a, holds_one_way, inr ((_, only_a_is_plain, (refl, tt)), (s, refl, h)))))
 
 pub answered : HasDocument parse_g_t (holding one_way (codes "a")) (codes "<S>a</S>\n")
 answered = (
@@ -84,7 +84,7 @@ two_derivations = inr (
       grammars.two_ways,
       holds_both_ways,
       inr (
-        (refl, (_, both_are_plain, (refl, tt))),
+        (_, both_are_plain, (refl, tt)),
         (
           codes "a",
           refl,
@@ -158,12 +158,12 @@ not_another_front h =
 
 -- ---- what could not be read
 
-none_in_nothing : (g : Grammar) → ¬ (HoldsGrammar [] g)
+none_in_nothing : (g : Grammar) → ¬ (HoldsConforming [] g)
 unfolding is_blank is_name_start is_name_part general_category value_in general_category_rows chars encode
-none_in_nothing g h = reads_none [] refl g h.1
+none_in_nothing g h = reads_none [] refl g h.0.1
 
-none_held : (bytes : List ℕ) → bytes ≡ [] → (g : Grammar) → ¬ (HoldsGrammar bytes g)
-none_held bytes e g h = none_in_nothing g (subst (λ b. HoldsGrammar b g) e h)
+none_held : (bytes : List ℕ) → bytes ≡ [] → (g : Grammar) → ¬ (HoldsConforming bytes g)
+none_held bytes e g h = none_in_nothing g (subst (λ b. HoldsConforming b g) e h)
 
 -- the text is not read where the files hold no grammar
 pub text_after_grammar : ¬ (IsUnread parse_g_t (Some (holding [] [])) no_count (raised (codes "t")) (codes "t"))

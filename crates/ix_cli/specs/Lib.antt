@@ -4,6 +4,7 @@ pub mod Form
 pub mod Laws
 pub mod Lines
 pub mod Loaded
+pub mod Numbers
 pub mod Once
 pub mod PlainGrammar
 pub mod PlainText

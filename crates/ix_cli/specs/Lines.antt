@@ -1,9 +1,10 @@
 -- The line and the status of each answer that is no document.
 use Rattle.std.specs.Prelude.{ℕ, List, [], ◌∷◌, ◌++◌, codes, string_bytes}
-use Rattle.ix_model.specs.Outcome.{Outcome, no_form, grammar_too_long, grammar_not_utf8, no_grammar, too_deep, message_of}
+use Rattle.ix_model.specs.Outcome.{no_form, message_of}
 use Rattle.ix_model.specs.Outcome as outcome
 use Rattle.ix_engine.specs.declared.refusal.Refusal.{Refusal}
 use Rattle.ix_engine.specs.declared.refusal.Refusal.TheVariants as refusal
+use Rattle.ix_engine.specs.Compiled.{outcome_of}
 use Rattle.ix_cli.specs.declared.answer.Answer.{Answer}
 use Rattle.ix_cli.specs.declared.answer.Answer.TheVariants as answer
 
@@ -22,18 +23,12 @@ memory_line = codes "ixml: out of memory\n"
 
 -- of a grammar that is refused
 abbrev pub refusal_line : Refusal → List ℕ
-refusal_line refusal.FileTooLong = message_of grammar_too_long
-refusal_line (refusal.NotUtf8 valid) = message_of (grammar_not_utf8 valid)
-refusal_line refusal.NotIxml = message_of no_grammar
-refusal_line refusal.TooDeep = message_of too_deep
 refusal_line refusal.Memory = memory_line
+refusal_line r = message_of (outcome_of r)
 
 abbrev pub refusal_status : Refusal → ℕ
-refusal_status refusal.FileTooLong = outcome.status_of grammar_too_long
-refusal_status (refusal.NotUtf8 valid) = outcome.status_of (grammar_not_utf8 valid)
-refusal_status refusal.NotIxml = outcome.status_of no_grammar
-refusal_status refusal.TooDeep = outcome.status_of too_deep
 refusal_status refusal.Memory = 9
+refusal_status r = outcome.status_of (outcome_of r)
 
 abbrev pub line_of : Answer → List ℕ
 line_of answer.Words = message_of no_form

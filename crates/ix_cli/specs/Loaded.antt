@@ -4,8 +4,8 @@ use Rattle.ix_model.specs.declared.grammar.Grammar.{Grammar}
 use Rattle.ix_edge.specs.Causes.{Rose}
 use Rattle.ix_edge.specs.Told.{Told, held}
 use Rattle.ix_engine.specs.declared.refusal.Refusal.TheVariants as refusal
-use Rattle.ix_model.specs.Answer.{HoldsGrammar}
-use Rattle.ix_engine.specs.Compiled.{IsRefused}
+use Rattle.ix_model.specs.Answer.{HoldsConforming, GrammarRefused}
+use Rattle.ix_engine.specs.Compiled.{outcome_of}
 use Rattle.ix_cli.specs.PlainGrammar.{IsPlainGrammar}
 use Rattle.ix_cli.specs.PlainText.{IsPlainText}
 use Rattle.ix_cli.specs.declared.answer.Answer.{Answer}
@@ -21,12 +21,12 @@ IsLoadFault old new name answer.Memory = Unit {0}
 IsLoadFault old new name (answer.Read file) = (string_bytes file ≡ name) × Rose (old name) (new name)
 IsLoadFault old new name _ = ⊥
 
--- The same; or the name holds bytes that are refused as a grammar, or a grammar that is not plain.
+-- The same; or the name holds bytes that are refused as a grammar, or a conforming grammar that is not plain.
 abbrev pub IsGrammarFault : Option Told → (List ℕ → ℕ) → (List ℕ → ℕ) → List ℕ → Answer → Type 0
 IsGrammarFault told old new name answer.Memory = Unit {0}
 IsGrammarFault told old new name (answer.Read file) = (string_bytes file ≡ name) × Rose (old name) (new name)
-IsGrammarFault told old new name (answer.Grammar r) = (r ≢ refusal.Memory) × Holds told name (λ bytes. IsRefused bytes r)
-IsGrammarFault told old new name answer.NotBuilt = Holds told name (λ bytes. (g : Grammar) × HoldsGrammar bytes g × ¬ (IsPlainGrammar g))
+IsGrammarFault told old new name (answer.Grammar r) = (r ≢ refusal.Memory) × Holds told name (λ bytes. GrammarRefused bytes (outcome_of r))
+IsGrammarFault told old new name answer.NotBuilt = Holds told name (λ bytes. (g : Grammar) × HoldsConforming bytes g × ¬ (IsPlainGrammar g))
 IsGrammarFault told old new name _ = ⊥
 
 -- The same; or the name holds bytes that are no plain text.

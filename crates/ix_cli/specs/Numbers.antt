@@ -1,6 +1,6 @@
 -- Terms whose numbers are those of characters, as they are in a grammar that conforms.
-use Rattle.std.specs.Prelude.{List}
-use Rattle.std.specs.List.{AllByRecursion, flat_map}
+use Rattle.std.specs.Prelude.{ℕ, List}
+use Rattle.std.specs.List.{AllByRecursion}
 use Rattle.ix_model.specs.declared.grammar.Alt.{Alt}
 use Rattle.ix_model.specs.declared.grammar.Factor.{Factor}
 use Rattle.ix_model.specs.declared.grammar.Term.{Term}
@@ -8,14 +8,18 @@ use Rattle.ix_model.specs.Breach.{IsCodePoint}
 use Rattle.ix_model.specs.Factors.{codes_of_factor, factors_of_term}
 use Rattle.ix_model.specs.Spells.{IsHex}
 
--- each number in the factors is written in hexadecimal digits, and is that of a character
-abbrev pub AreOfCharacters : List Factor → Type 0
-AreOfCharacters fs = AllByRecursion IsHex (flat_map codes_of_factor fs) × AllByRecursion IsCodePoint (flat_map codes_of_factor fs)
+-- each number is written in hexadecimal digits, and is that of a character
+abbrev pub AreCharacters : List (List ℕ) → Type 0
+AreCharacters codes = AllByRecursion IsHex codes × AllByRecursion IsCodePoint codes
 
--- the same for the factors of a term
+-- so is each number in the factor
+abbrev pub HasCharacters : Factor → Type 0
+HasCharacters f = AreCharacters (codes_of_factor f)
+
+-- and in each factor of the term
 abbrev pub IsOfCharacters : Term → Type 0
-IsOfCharacters t = AreOfCharacters (factors_of_term t)
+IsOfCharacters t = AllByRecursion HasCharacters (factors_of_term t)
 
--- the same for each of the terms of each of the alternatives
-abbrev pub AreAltsOfCharacters : List Alt → Type 0
-AreAltsOfCharacters alts = AllByRecursion (λ (alt : Alt). AllByRecursion IsOfCharacters alt.terms) alts
+-- and in each term of each of the alternatives
+abbrev pub AreOfCharacters : List Alt → Type 0
+AreOfCharacters alts = AllByRecursion (λ (alt : Alt). AllByRecursion IsOfCharacters alt.terms) alts

@@ -1,5 +1,6 @@
--- The grammars that the command answers: one rule, whose alternatives are quoted literals. Alternatives and literals may be empty.
-use Rattle.std.specs.Prelude.{◌≡◌, ℕ, Bool, ◌||◌, ◌&&◌, nat_le, None, IsTrue, List}
+-- The grammars that the command answers: one rule, whose alternatives are literals and sets without marks. Alternatives, literals and
+-- sets may be empty.
+use Rattle.std.specs.Prelude.{ℕ, Bool, ◌||◌, ◌&&◌, nat_le, IsTrue, List}
 use Rattle.std.specs.List.{AllByRecursion}
 use Rattle.ix_model.specs.declared.grammar.Grammar.{Grammar}
 use Rattle.ix_model.specs.declared.grammar.Rule.{Rule}
@@ -13,6 +14,6 @@ is_letter c = (nat_le 65 c && nat_le c 90) || (nat_le 97 c && nat_le c 122)
 abbrev pub IsPlainName : List ℕ → Type 0
 IsPlainName name = AllByRecursion (λ c. IsTrue (is_letter c)) name
 
--- no version, and one rule without a mark, of a plain name and plain alternatives
+-- one rule without a mark, of a plain name and plain alternatives
 abbrev pub IsPlainGrammar : Grammar → Type 0
-IsPlainGrammar g = (g.version ≡ None) × ((rule : Rule) × HasPlainRule g rule × IsPlainName rule.name)
+IsPlainGrammar g = (rule : Rule) × HasPlainRule g rule × IsPlainName rule.name

@@ -6,7 +6,7 @@ use Rattle.ix_cli.specs.declared.answer.Answer.{Answer}
 use Rattle.ix_cli.specs.declared.answer.Answer.TheVariants as answer
 use Rattle.ix_cli.specs.Form.{HasSomeForm}
 use Rattle.ix_cli.specs.Reply.{IsReply, reply, not_built}
-use Rattle.ix_cli.specs.Refusals.{outcome_of}
+use Rattle.ix_engine.specs.Compiled.{outcome_of}
 use Rattle.ix_cli.specs.Unread.{IsUnread}
 
 -- the counts are those before and after the files were read

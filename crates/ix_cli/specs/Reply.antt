@@ -1,23 +1,19 @@
 -- What the command answers where nothing outside fails: the table of its answers.
-use Rattle.std.specs.Prelude.{◌≡◌, ◌≢◌, ◌⊎◌, ℕ, List, [], Some}
+use Rattle.std.specs.Prelude.{◌≡◌, ◌⊎◌, ℕ, List, [], Some}
 use Rattle.ix_model.specs.declared.grammar.Grammar.{Grammar}
 use Rattle.ix_model.specs.declared.state.State.TheVariants.{Single}
 use Rattle.ix_model.specs.Trees.{Tree}
 use Rattle.ix_model.specs.Gives.{Givens, gives_root}
 use Rattle.ix_model.specs.Xml.{xml}
-use Rattle.ix_model.specs.Answer.{HoldsGrammar}
+use Rattle.ix_model.specs.Answer.{HoldsConforming, GrammarRefused}
 use Rattle.ix_model.specs.Outcome.{Outcome, no_form, document, message_of}
 use Rattle.ix_model.specs.Outcome as outcome
 use Rattle.ix_edge.specs.Told.{Told, held}
-use Rattle.ix_engine.specs.declared.refusal.Refusal.{Refusal}
-use Rattle.ix_engine.specs.declared.refusal.Refusal.TheVariants as refusal
-use Rattle.ix_engine.specs.Compiled.{IsRefused}
 use Rattle.ix_cli.specs.Form.{HasForm, HasSomeForm}
 use Rattle.ix_cli.specs.Lines.{not_built_line}
 use Rattle.ix_cli.specs.Once.{IsOnly}
 use Rattle.ix_cli.specs.PlainGrammar.{IsPlainGrammar}
 use Rattle.ix_cli.specs.PlainText.{IsPlainText}
-use Rattle.ix_cli.specs.Refusals.{outcome_of}
 
 pub data Reply : Type 0 where
   -- what comes of words, grammar and text
@@ -46,19 +42,19 @@ IsTextReply g text (reply (document gs Single)) = IsPlainText text × ((d : Tree
 IsTextReply g text not_built = ¬ (IsPlainText text × ((d : Tree) × IsOnly g text d))
 IsTextReply g text _ = ⊥
 
--- A grammar that the files hold: it is not plain, or they hold a text too.
+-- A conforming grammar that the files hold: it is not plain, or they hold a text too.
 abbrev pub HeldReply : Told → List ℕ → Grammar → Reply → Type 0
 HeldReply told text g r =
     (¬ (IsPlainGrammar g) × (r ≡ not_built))
     ⊎ (IsPlainGrammar g × ((s : List ℕ) × (held told text ≡ Some s) × IsTextReply g s r))
 
--- The bytes of a grammar file: they are refused, or they hold a grammar.
+-- The bytes of a grammar file: they are refused, or they hold a conforming grammar.
 abbrev pub GrammarReply : Told → List ℕ → List ℕ → Reply → Type 0
 GrammarReply told text bytes r =
-    ((refused : Refusal) × (refused ≢ refusal.Memory) × IsRefused bytes refused × (r ≡ reply (outcome_of refused)))
-    ⊎ ((g : Grammar) × HoldsGrammar bytes g × HeldReply told text g r)
+    ((o : Outcome) × GrammarRefused bytes o × (r ≡ reply o))
+    ⊎ ((g : Grammar) × HoldsConforming bytes g × HeldReply told text g r)
 
--- The files hold a grammar of this name.
+-- The files hold a grammar file of this name.
 abbrev pub IsFilesReply : Told → List ℕ → List ℕ → Reply → Type 0
 IsFilesReply told grammar text r = (bytes : List ℕ) × (held told grammar ≡ Some bytes) × GrammarReply told text bytes r
 

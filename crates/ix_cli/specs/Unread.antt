@@ -3,14 +3,14 @@ use Rattle.std.specs.Prelude.{◌≡◌, ◌⊎◌, ℕ, List, Option}
 use Rattle.ix_model.specs.declared.grammar.Grammar.{Grammar}
 use Rattle.ix_edge.specs.Causes.{Rose}
 use Rattle.ix_edge.specs.Told.{Told}
-use Rattle.ix_model.specs.Answer.{HoldsGrammar}
+use Rattle.ix_model.specs.Answer.{HoldsConforming}
 use Rattle.ix_cli.specs.Form.{HasForm}
 use Rattle.ix_cli.specs.Loaded.{Holds}
 use Rattle.ix_cli.specs.PlainGrammar.{IsPlainGrammar}
 
 -- where the files tell it, the name holds a grammar that is answered
 abbrev pub HoldsPlain : Option Told → List ℕ → Type 0
-HoldsPlain told grammar = Holds told grammar (λ bytes. (g : Grammar) × HoldsGrammar bytes g × IsPlainGrammar g)
+HoldsPlain told grammar = Holds told grammar (λ bytes. (g : Grammar) × HoldsConforming bytes g × IsPlainGrammar g)
 
 -- the count of this file's name rose, and the file was the next to be read
 abbrev pub IsUnread : List (List ℕ) → Option Told → (List ℕ → ℕ) → (List ℕ → ℕ) → List ℕ → Type 0

@@ -33,8 +33,8 @@ fn full_document(alloc: Global, name: &str, content: &str) -> Result<String, All
     format!(in alloc; "<{name}>{content}</{name}>\n")
 }
 
-// The characters of a name.
-fn name_text(alloc: Global, name: &[char]) -> Result<String, AllocError>
+/// The characters of a name.
+pub fn name_text(alloc: Global, name: &[char]) -> Result<String, AllocError>
     ensures { IfOk result (λ text. string_bytes text ≡ name_bytes name.now) }
 {
     let mut text = String::with_capacity(alloc, name.len())?;

@@ -10,7 +10,9 @@ ghost use Rattle.ix_cli.specs.Lines.{memory_line, not_built_line, write_line};
 ghost use Rattle.ix_cli.specs.PlainGrammar.{IsPlainGrammar};
 ghost use Rattle.ix_cli.specs.PlainText.{IsPlainText};
 ghost use Rattle.ix_cli.specs.Reply.{reply, not_built, IsReply, HasDocument};
-ghost use Rattle.ix_model.specs.ExampleGrammars.{only_a, same_names};
+ghost use Rattle.ix_model.specs.ExampleGrammars.{only_a, quoted, same_names};
+ghost use Rattle.ix_model.specs.ExampleSpellings.{of_version};
+ghost use Rattle.ix_cli.specs.Numbers.{AreCharacters};
 ghost use Rattle.ix_model.specs.Outcome.{no_form, no_grammar};
 ghost use Rattle.ix_cli.specs.Says.{Says};
 ghost use Rattle.ix_cli.specs.Unread.{IsUnread};
@@ -75,9 +77,10 @@ pub fn lines_that_are_said()
     ensures failed { Says (Some []) (Some []) 0 1 memory_line }
 {}
 
-/// `S: "a".` is plain; a grammar of two rules is not.
+/// `S: "a".` is plain, whatever its version; a grammar of two rules is not.
 pub fn grammars_that_are_plain()
     ensures plain { IsPlainGrammar only_a }
+    ensures version { IsPlainGrammar (of_version (codes "1.0") (quoted (codes "a"))) }
     ensures two_rules { ¬ (IsPlainGrammar same_names) }
 {}
 
@@ -86,4 +89,11 @@ pub fn messages_of_a_status()
     ensures silent { IsMessage 0 (λ line. line ≡ []) }
     ensures not_built { IsMessage 10 (λ line. line ≡ not_built_line) }
     ensures another { ¬ (IsMessage 10 (λ line. line ≡ write_line)) }
+{}
+
+/// `#41` is the number of a character; `#D800` and `#110000` are none.
+pub fn numbers_of_characters()
+    ensures letter { AreCharacters (codes "41" ∷ []) }
+    ensures surrogate { ¬ (AreCharacters (codes "D800" ∷ [])) }
+    ensures beyond { ¬ (AreCharacters (codes "41" ∷ codes "110000" ∷ [])) }
 {}

@@ -7,14 +7,18 @@
 mod answer;
 mod document;
 pub mod laws;
+mod lines;
 mod load;
 mod plain;
 mod run;
 mod search;
+mod telling;
 mod words;
 
-pub use answer::{Answer, message, refuse};
+pub use answer::Answer;
+pub use lines::message;
 pub use run::run_alone;
+pub use telling::refuse;
 
 #[cfg(test)]
 mod tests;

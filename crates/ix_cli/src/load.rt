@@ -1,5 +1,6 @@
 ghost use Rattle.std.specs.Prelude.{◌≡◌, ◌≤◌, ℕ, List, IfOk, IfErr, take};
-ghost use Rattle.ix_model.specs.Answer.{HoldsGrammar};
+ghost use Rattle.ix_model.specs.Answer.{HoldsConforming};
+ghost use Rattle.ix_model.specs.Breach.{Conforming};
 ghost use Rattle.ix_cli.specs.Loaded.{Holds, IsLoadFault, IsGrammarFault, IsTextFault};
 ghost use Rattle.ix_cli.specs.PlainGrammar.{IsPlainGrammar};
 ghost use Rattle.ix_cli.specs.PlainText.{IsPlainText};
@@ -16,10 +17,11 @@ const MOST_OF_GRAMMAR: u64 = 1_048_577;
 
 const MOST_OF_TEXT: u64 = 4097;
 
-/// The plain grammar that the file of this name spells.
+/// The plain and conforming grammar that the file of this name spells.
 pub fn load_grammar<F: Files>(alloc: Global, name: &str, files: &mut F) -> Result<Grammar, Answer>
     ensures plain { IfOk result IsPlainGrammar }
-    ensures ok { IfOk result (λ g. Holds (F.told files.old) name.now (λ bytes. HoldsGrammar bytes g)) }
+    ensures conforming { IfOk result (λ g. Conforming g) }
+    ensures ok { IfOk result (λ g. Holds (F.told files.old) name.now (λ bytes. HoldsConforming bytes g)) }
     ensures err { IfErr result (IsGrammarFault (F.told files.old) (F.faults files.old) (F.faults files.new) name.now) }
     ensures same { F.told files.new ≡ F.told files.old }
     ensures later { (other : List ℕ) → F.faults files.old other ≤ F.faults files.new other }

@@ -1,5 +1,6 @@
 ghost use Rattle.std.specs.Prelude.{◌≡◌, ◌<◌, ◌⊎◌, ◌↔◌, length, IfOk, IfErr, IsTrue, None, Err, string_bytes};
 ghost use Rattle.ix_model.specs.Trees.{Tree};
+ghost use Rattle.ix_model.specs.Breach.{Conforming};
 ghost use Rattle.ix_model.specs.Plain.{IsPlain, ArePlain};
 ghost use Rattle.ix_cli.specs.Once.{ArePlainAlts, IsOnly, IsOnlyDocument};
 ghost use Rattle.ix_cli.specs.PlainGrammar.{IsPlainGrammar, IsPlainName};
@@ -8,7 +9,7 @@ ghost use Rattle.ix_cli.specs.PlainText.{IsPlainText};
 use crate::answer::Answer;
 use crate::document::document_of;
 use crate::search::is_derived_once;
-use ix_model::{Alt, Chars, Factor, Grammar, Rule, Term};
+use ix_model::{Alt, Factor, Grammar, Rule, Term};
 use std::alloc::{AllocError, Global};
 
 const MOST: usize = 4096;
@@ -24,9 +25,6 @@ pub fn is_plain_text(bytes: &[u8]) -> bool
 pub fn is_plain_grammar(grammar: &Grammar) -> bool
     ensures { IsTrue result ↔ IsPlainGrammar grammar.now }
 {
-    if grammar.version.is_some() {
-        return false;
-    }
     match grammar.rules.as_slice() {
         [rule] => is_plain_rule(rule),
         _ => false,
@@ -79,23 +77,22 @@ fn is_plain(term: &Term) -> bool
 {
     matches!(
         term,
-        Term::One(Factor::Lit {
-            tmark: None,
-            chars: Chars::Quoted(_),
-        })
+        Term::One(Factor::Lit { tmark: None, .. } | Factor::Set { tmark: None, .. })
     )
 }
 
 /// The document of the text, where the grammar derives it in exactly one way.
 pub fn only_document(alloc: Global, grammar: &Grammar, text: &[char]) -> Result<String, Answer>
     requires plain { IsPlainGrammar grammar.now }
+    requires conforming { Conforming grammar.now }
     ensures some { IfOk result (λ document. 0 < length (string_bytes document)) }
     ensures ok { IfOk result (λ document. IsOnlyDocument grammar.now text.now (string_bytes document)) }
     ensures err { IfErr result (λ answer. (answer ≡ Answer.NotBuilt) ⊎ (answer ≡ Answer.Memory)) }
     ensures not_built { result ≡ Err Answer.NotBuilt → (d : Tree) → IsOnly grammar.now text.now d → ⊥ }
 {
     let rule = &grammar.rules.as_slice()[0];
-    if !is_derived_once(rule.alts.as_slice(), text) {
+    let once = is_derived_once(alloc, rule.alts.as_slice(), text)?;
+    if !once {
         return Err(Answer::NotBuilt);
     }
     Ok(document_of(alloc, rule.name.as_slice(), text)?)

@@ -10,9 +10,11 @@ ghost use Rattle.ix_cli.specs.Says.{Says};
 ghost use Rattle.ix_cli.specs.Unread.{IsUnread};
 ghost use Rattle.ix_cli.specs.Written.{IsWritten};
 
-use crate::answer::{Answer, MEMORY, message, refuse, tell};
+use crate::answer::Answer;
+use crate::lines::{MEMORY, message};
 use crate::load::{load_grammar, load_text};
 use crate::plain::only_document;
+use crate::telling::{refuse, tell};
 use crate::words::operands;
 use ix_edge::{Files, Sink};
 use std::alloc::Global;
@@ -20,7 +22,7 @@ use std::alloc::Global;
 /// Runs the command that the words after the program's name spell, alone and on one thread, and gives its exit status.
 ///
 /// The document goes to `out`, and one line to `msg` where there is none. The status is 0 at a document, 2 where the
-/// words have no form, 3 where the grammar is refused (G01, G08, G09), 5 where it is not UTF-8, 7 where a file could not
+/// words have no form, 3 where the grammar is refused (G01 to G09), 5 where it is not UTF-8, 7 where a file could not
 /// be read, 8 where the document could not be written, 9 where memory ran out, and 10 where the grammar or the text is
 /// of a form that is not answered, or the text has not exactly one derivation. Want of memory may come at any call;
 /// nothing is written to `out` then. A fault of `msg` changes nothing.

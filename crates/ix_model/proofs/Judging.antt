@@ -352,3 +352,11 @@ item_once g (duplicate a) (duplicate b) (r, h, none) (q, m, no_other) k =
     let e : r ≡ q = least_number (Repeats g) r q (a, h) (b, m) (λ p l x. none p x.0 l x.1) (λ p l x. no_other p x.0 l x.1) (one_of_three r q) in
     ap duplicate (same_name g q a b (subst (λ (z : ℕ). IsNamed g z a) e h.0) m.0)
 item_once g _ _ h m k = absurd (omega (arith, k))
+
+-- a grammar of which no code holds is without a fault
+pub faultless : (g : Grammar) → ((fault : Fault) → ¬ (Breach g fault)) → IsFaultless g
+faultless g none = by_verdict (judged g)
+  where
+    by_verdict : ((fault : Fault) × LeastBreach g fault) ⊎ IsFaultless g → IsFaultless g
+    by_verdict (inl h) = absurd (none h.0 h.1.0)
+    by_verdict (inr h) = h

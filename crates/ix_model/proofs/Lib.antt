@@ -1,3 +1,4 @@
+pub mod AllOf
 pub mod Answers
 pub mod Asym
 pub mod Booleans
@@ -13,6 +14,7 @@ pub mod Commands
 pub mod Covering
 pub mod Decide
 pub mod FirstNames
+pub mod FactorLists
 pub mod Firsts
 pub mod FlatWidths
 pub mod Folds
@@ -64,6 +66,7 @@ pub mod SpacingFacts
 pub mod SpelledNumbers
 pub mod Standing
 pub mod TokenFacts
+pub mod TextTests
 pub mod Total
 pub mod TreesClosed
 pub mod TwoTrees

@@ -13,17 +13,10 @@ use Rattle.ix_model.specs.declared.grammar.Factor.{Factor, Group}
 use Rattle.ix_model.specs.Spells as Sp
 use Rattle.ix_model.specs.Spells.{IsHex, CharsAt, BoundAt, MemberAt, MembersAt, SetAt, AltsAt, AltAt, TermsAt, TermAt, FactorAt, RuleAt, RulesAt, Spells}
 use Rattle.ix_model.specs.Factors.{joined, factor_step, term_step, alt_step, factors_of_factor, factors_of_term, factors_of_alt, codes_of_chars, codes_of_bound, codes_of_member, codes_of_factor, codes_of}
+use Rattle.ix_model.proofs.AllOf.{all_append, all_flat}
 use Rattle.ix_model.proofs.Folds.{fold_lit, fold_set, fold_call, fold_insert, fold_group, fold_one, fold_opt, fold_star, fold_plus, fold_alt}
 
 -- ---- lists of which something holds of each
-
-all_append : {X : Type 0} (P : X → Type 0) (xs ys : List X) → AllByRecursion P xs → AllByRecursion P ys → AllByRecursion P (xs ++ ys)
-all_append P [] ys h k = k
-all_append P (x ∷ xs) ys h k = (h.0, all_append P xs ys h.1 k)
-
-all_flat : {X A : Type 0} (P : A → Type 0) (part : X → List A) (xs : List X) → AllByRecursion (λ x. AllByRecursion P (part x)) xs → AllByRecursion P (flat_map part xs)
-all_flat P part [] h = tt
-all_flat P part (x ∷ xs) h = all_append P (part x) (flat_map part xs) h.0 (all_flat P part xs h.1)
 
 all_map : {X A : Type 0} (P : A → Type 0) (image : X → A) (xs : List X) → AllByRecursion (λ x. P (image x)) xs → AllByRecursion P (map image xs)
 all_map P image [] h = tt

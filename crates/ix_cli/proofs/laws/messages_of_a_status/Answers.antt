@@ -18,6 +18,12 @@ no_refusal refusal.FileTooLong e = omega (arith, e)
 no_refusal (refusal.NotUtf8 valid) e = omega (arith, e)
 no_refusal refusal.NotIxml e = omega (arith, e)
 no_refusal refusal.TooDeep e = omega (arith, e)
+no_refusal (refusal.Version text) e = omega (arith, e)
+no_refusal (refusal.CodePoint digits) e = omega (arith, e)
+no_refusal (refusal.Range low high) e = omega (arith, e)
+no_refusal (refusal.Class name) e = omega (arith, e)
+no_refusal (refusal.Undefined name) e = omega (arith, e)
+no_refusal (refusal.Duplicate name) e = omega (arith, e)
 no_refusal refusal.Memory e = omega (arith, e)
 
 its_own : (a : Answer) → 10 ≡ status_of a → line_of a ≡ write_line → ⊥

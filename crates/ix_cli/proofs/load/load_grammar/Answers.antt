@@ -1,5 +1,5 @@
 use Rattle.std.proofs.Common.{◌≡◌, ◌∙◌, take}
-use Rattle.ix_model.specs.Answer.{HoldsGrammar}
+use Rattle.ix_model.specs.Answer.{HoldsConforming}
 use Rattle.ix_engine.specs.Compiled.{IsRefused}
 use Rattle.ix_cli.specs.Loaded.{Holds, IsGrammarFault}
 use Rattle.ix_cli.specs.Refusals.{of_refusal}
@@ -32,6 +32,6 @@ returns-then-not-is_plain_grammar-clause-err g c =
 
 pub returns-clause-ok : goal.returns-clause-ok
 returns-clause-ok g c =
-    holds_more (g.F.Files.told c.args.files.now) c.args.name.now (λ bytes. c.in_ok-bytes.bytes.items ≡ take 1048577 bytes) (λ bytes. HoldsGrammar bytes c.in_ok-grammar.grammar)
+    holds_more (g.F.Files.told c.args.files.now) c.args.name.now (λ bytes. c.in_ok-bytes.bytes.items ≡ take 1048577 bytes) (λ bytes. HoldsConforming bytes c.in_ok-grammar.grammar)
     (λ bytes e. compiled_whole c.in_ok-grammar.grammar c.deref.result.now bytes (c.deref.ensures.value ∙ e) c.in_ok-grammar.ensures.ok)
     c.in_ok-bytes.ensures.ok

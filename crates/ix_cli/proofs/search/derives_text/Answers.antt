@@ -1,4 +1,5 @@
-use Rattle.std.proofs.Common.{◌≡◌, ◌-◌, ℕ, length, refl, sym, ◌∙◌, subst, arith}
+use Rattle.std.proofs.Common.{◌≡◌, ◌-◌, ℕ, length, sym, ◌∙◌, subst, arith, IfSome}
+use Rattle.ix_model.specs.Terminals.{Matches}
 use Rattle.ix_model.specs.Derives.{DerivesFirst}
 use Rattle.ix_model.proofs.Lines.{comes_nowhere, comes_next, stops_here, plain_at, matches_within, get_some}
 use Rattle.std.proofs.lemmas.Bool.Decides.{nat_tests}
@@ -11,16 +12,16 @@ pub returns-in-None-clause-no : goal.returns-in-None-clause-no
 returns-in-None-clause-no c = λ _ g h.
     let e = get_some c.args.terms.now c.loop-term.term-index c.term-item.result c.loop-term-test.true c.term-item.is in
     stops_here g c.args.text.now c.args.terms.now c.loop-term.term-index c.loop-term.at c.term-item.result
-    (plain_at c.args.terms.now c.loop-term.term-index c.term-item.result c.requires.plain e) e (c.in-None.ensures.none refl) (c.loop-term.invariant.comes g)
+    (plain_at c.args.terms.now c.loop-term.term-index c.term-item.result c.requires.plain e) e (c.in_ok-end.ensures.none c.in-None.is) (c.loop-term.invariant.comes g)
     (length c.args.terms.now - c.loop-term.term-index - 1) h.0 (length c.args.text.now) (omega (arith, h.1.0, c.loop-term-test.true)) h.1.1
 
 pub loop-term-preserved : goal.loop-term-preserved
 loop-term-preserved c =
     let e = get_some c.args.terms.now c.loop-term.term-index c.term-item.result c.loop-term-test.true c.term-item.is in
     record {
-      within = matches_within c.args.text.now c.term-item.result c.loop-term.at c.in-Some.end c.in-Some.ensures.some;
+      within = matches_within c.args.text.now c.term-item.result c.loop-term.at c.in-Some.end (subst (λ o. IfSome o (λ e. Matches c.args.text.now c.term-item.result c.loop-term.at e)) c.in-Some.is c.in_ok-end.ensures.some);
       comes = λ g. comes_next g c.args.text.now c.args.terms.now c.loop-term.term-index c.loop-term.at c.in-Some.end c.term-item.result
-          (plain_at c.args.terms.now c.loop-term.term-index c.term-item.result c.requires.plain e) e c.in-Some.ensures.some (c.loop-term.invariant.comes g);
+          (plain_at c.args.terms.now c.loop-term.term-index c.term-item.result c.requires.plain e) e (subst (λ o. IfSome o (λ e. Matches c.args.text.now c.term-item.result c.loop-term.at e)) c.in-Some.is c.in_ok-end.ensures.some) (c.loop-term.invariant.comes g);
     }
 
 pub returns-clause-yes : goal.returns-clause-yes

@@ -1,7 +1,7 @@
 use Rattle.std.proofs.Common.{sym, ◌∙◌, subst}
 use Rattle.ix_cli.specs.Says.{Says}
 use Rattle.ix_cli.proofs.Statuses.{named_file}
-use Rattle.ix_cli.proofs.answer.refuse.Goals as goal
+use Rattle.ix_cli.proofs.telling.refuse.Goals as goal
 
 pub returns-in-Ok-clause-read : goal.returns-in-Ok-clause-read
 returns-in-Ok-clause-read g c = λ e.
