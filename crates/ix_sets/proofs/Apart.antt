@@ -1,10 +1,8 @@
 -- Ranges that rise with gaps, as those of a set.
-use Rattle.std.proofs.Common.{◌≡◌, ◌↔◌, ◌⊎◌, ℕ, ◌+◌, ◌<◌, ◌≤◌, Bool, true, false, not, ◌&&◌, ◌||◌, List, [], ◌∷◌, map, refl, sym, inl, inr, IsTrue, arith, ◌∙◌, ⊎_elim}
-use Rattle.std.proofs.lemmas.Bool.{and_parts, or_cases, or_left, or_right, both_ways, leb-true}
-use Rattle.std.proofs.lemmas.Bool.Decides.{nat_tests}
-use Rattle.regex_class.specs.Ranges.{Range, in_range, in_ranges, fits_from, rises_from, IsCanonical}
+use Rattle.std.proofs.Common.{◌≡◌, ℕ, ◌+◌, ◌≤◌, true, List, [], ◌∷◌, map, inl, inr, IsTrue, arith}
+use Rattle.std.proofs.lemmas.Bool.{and_parts, or_cases, or_left, or_right, both_ways}
+use Rattle.regex_class.specs.Ranges.{Range, in_ranges, rises_from, IsCanonical}
 use Rattle.regex_class.proofs.RangesLemmas.{in_range_tells, fits_from-true}
-use Rattle.ix_model.specs.declared.char_set.CharRange.{CharRange}
 use Rattle.ix_sets.specs.CharRanges.{char_range}
 use Rattle.ix_model.specs.Ranges.{IsInRanges, AreAfter, AreApart}
 

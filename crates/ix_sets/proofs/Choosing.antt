@@ -1,5 +1,5 @@
 -- The characters that a set matches, from those that its members have.
-use Rattle.std.proofs.Common.{◌≡◌, ◌↔◌, ◌⊎◌, ℕ, ◌+◌, ◌<◌, ◌≤◌, Bool, true, false, not, ◌&&◌, ◌||◌, List, [], ◌∷◌, sym, inl, inr, IsTrue, ap, arith, ◌∙◌, ⊎_elim}
+use Rattle.std.proofs.Common.{◌≡◌, ◌↔◌, ℕ, ◌≤◌, Bool, true, false, not, ◌&&◌, List, [], ◌∷◌, sym, inl, inr, IsTrue, ap, arith, ◌∙◌, ⊎_elim}
 use Rattle.std.specs.Char.{IsScalar}
 use Rattle.std.proofs.lemmas.Bool.{both_ways, cases_lt, and_parts, and_from, not-true, not_from_false, false_from_ne_true}
 use Rattle.std.proofs.lemmas.Bool.Decides.{nat_tests}
@@ -40,11 +40,11 @@ everywhere class P holds c = elim (cases_lt 0x10_FFFF c) [
 pub others_held : (exclude : Bool) → exclude ≡ true → (ms : List Member) (characters members : Class) → Holds characters IsScalar → Holds members (λ c. IsOfSome c ms) → (class : Class) → HasExactly class.ranges.items (λ c. in_ranges characters.ranges.items c && not (in_ranges members.ranges.items c)) → (c : ℕ) → IsTrue (in_ranges class.ranges.items c) ↔ (IsScalar c × InSet exclude ms c)
 others_held exclude e ms characters members cs msh class same = rw e (everywhere class (λ c. ¬ (IsOfSome c ms)) (λ c m. (
   λ h. let parts = and_parts _ _ (sym (same c m) ∙ h) in ((cs c m).0 parts.0, λ of. both_ways _ (not-true _ parts.1) ((msh c m).1 of)),
-  λ h. same c m ∙ and_from _ _ ((cs c m).1 h.0) (not_from_false _ (false_from_ne_true _ (λ t. h.1 ((msh c m).0 t))))
+  λ h. same c m ∙ and_from _ _ ((cs c m).1 h.0) (not_from_false _ (false_from_ne_true _ (λ t. h.1 ((msh c m).0 t)))),
 )))
 
 pub own_held : (exclude : Bool) → exclude ≡ false → (ms : List Member) (characters members : Class) → Holds characters IsScalar → Holds members (λ c. IsOfSome c ms) → (class : Class) → HasExactly class.ranges.items (λ c. in_ranges characters.ranges.items c && in_ranges members.ranges.items c) → (c : ℕ) → IsTrue (in_ranges class.ranges.items c) ↔ (IsScalar c × InSet exclude ms c)
 own_held exclude e ms characters members cs msh class same = rw e (everywhere class (λ c. IsOfSome c ms) (λ c m. (
   λ h. let parts = and_parts _ _ (sym (same c m) ∙ h) in ((cs c m).0 parts.0, (msh c m).0 parts.1),
-  λ h. same c m ∙ and_from _ _ ((cs c m).1 h.0) ((msh c m).1 h.1)
+  λ h. same c m ∙ and_from _ _ ((cs c m).1 h.0) ((msh c m).1 h.1),
 )))

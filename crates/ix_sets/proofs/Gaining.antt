@@ -1,9 +1,9 @@
 -- How a list of ranges comes to hold more numbers, range by range.
-use Rattle.std.proofs.Common.{◌≡◌, ◌↔◌, ◌⊎◌, ℕ, ◌+◌, ◌<◌, ◌≤◌, Bool, true, false, ◌||◌, List, [], ◌∷◌, ◌++◌, length, take, get_or, inl, inr, refl, sym, ap, ◌∙◌, ⊎_elim, IsTrue, zero, suc, not-suc-le-zero, le_of_suc-le-suc, arith}
+use Rattle.std.proofs.Common.{◌≡◌, ◌↔◌, ◌⊎◌, ℕ, ◌+◌, ◌<◌, ◌≤◌, Bool, ◌||◌, List, [], ◌∷◌, ◌++◌, length, take, get_or, inl, inr, refl, sym, ap, ◌∙◌, ⊎_elim, subst, Any, IsTrue, zero, suc, not-suc-le-zero, le_of_suc-le-suc, arith}
 use Rattle.std.proofs.lemmas.Bool.{or_cases, or_left, or_right, both_ways}
 use Rattle.std.proofs.lemmas.List.{take_more, take_all}
 use Rattle.regex_class.specs.Ranges.{Range, in_range, in_ranges}
-use Rattle.regex_class.proofs.RangesLemmas.{in_range_tells, in_ranges-nil, in_ranges-push, in_ranges-append}
+use Rattle.regex_class.proofs.RangesLemmas.{in_range_tells, in_ranges-push, in_ranges-append}
 use Rattle.unicode.specs.Rows as rows
 use Rattle.ix_sets.specs.Gains.{Gains}
 
@@ -30,6 +30,16 @@ pub some_at : {X : Type 0} (P : X → Type 0) (xs : List X) (i : ℕ) (d : X) �
 some_at P [] i d h p = absurd (not-suc-le-zero h)
 some_at P (x ∷ xs) zero d h p = inl p
 some_at P (x ∷ xs) (suc i) d h p = inr (some_at P xs i d (le_of_suc-le-suc h) p)
+
+pub some_of_any : {X : Type 0} (P : X → Type 0) (xs : List X) → Any P xs → SomeOf P xs
+some_of_any P xs (k, x, h, is, p) = some_at P xs k x h (let Q : _ = P in subst Q (sym is) p)
+
+pub any_of_some : {X : Type 0} (P : X → Type 0) (xs : List X) → SomeOf P xs → Any P xs
+any_of_some P [] h = absurd h
+any_of_some P (x ∷ xs) (inl h) = (0, x, omega arith, refl, h)
+any_of_some P (x ∷ xs) (inr h) =
+    let found = any_of_some P xs h in
+    (suc found.0, found.1, omega (arith, found.2), found.3, found.4)
 
 pub some_map : {X : Type 0} {P Q : X → Type 0} (xs : List X) → ((x : X) → P x → Q x) → SomeOf P xs → SomeOf Q xs
 some_map [] f h = h
@@ -66,24 +76,24 @@ gains_nothing rs P none = record { held = λ c m. (inl, ⊎_elim (λ h. h) (λ p
 pub gains_range : {old new : List Range} (low high : ℕ) → new ≡ old ++ (low, high) ∷ [] → Gains old new (λ c. (low ≤ c) × (c ≤ high))
 gains_range {old} low high e = record {
   held = λ c m.
-    let added = ap (λ rs. in_ranges rs c) e ∙ in_ranges-push old (low, high) c in
-    let r = held_range low high c in
-    (λ h. ⊎_elim inl (λ t. inr (r.0 t)) (or_cases _ _ (sym added ∙ h)), λ h. added ∙ (held_or _ _).1 (⊎_elim inl (λ b. inr (r.1 b)) h));
+      let added = ap (λ rs. in_ranges rs c) e ∙ in_ranges-push old (low, high) c in
+      let r = held_range low high c in
+      (λ h. ⊎_elim inl (λ t. inr (r.0 t)) (or_cases _ _ (sym added ∙ h)), λ h. added ∙ (held_or _ _).1 (⊎_elim inl (λ b. inr (r.1 b)) h));
 }
 
 pub gains_ranges : {old new : List Range} (more : List Range) (p : ℕ → Bool) → new ≡ old ++ more → rows.HasExactly more p → Gains old new (λ c. IsTrue (p c))
 gains_ranges {old} more p e all = record {
   held = λ c m.
-    let added = ap (λ rs. in_ranges rs c) e ∙ in_ranges-append old more c ∙ ap (λ b. in_ranges old c || b) (sym (same_tests more c) ∙ all c m) in
-    (λ h. or_cases _ _ (sym added ∙ h), λ h. added ∙ (held_or _ _).1 h);
+      let added = ap (λ rs. in_ranges rs c) e ∙ in_ranges-append old more c ∙ ap (λ b. in_ranges old c || b) (sym (same_tests more c) ∙ all c m) in
+      (λ h. or_cases _ _ (sym added ∙ h), λ h. added ∙ (held_or _ _).1 h);
 }
 
 -- the same, said otherwise
 pub gains_as : {old new : List Range} {P : ℕ → Type 0} (Q : ℕ → Type 0) → Gains old new P → ((c : ℕ) → P c → Q c) → ((c : ℕ) → Q c → P c) → Gains old new Q
 gains_as Q g to from = record {
   held = λ c m.
-    let h = g.held c m in
-    (λ t. ⊎_elim inl (λ p. inr (to c p)) (h.0 t), λ t. h.1 (⊎_elim inl (λ q. inr (from c q)) t));
+      let h = g.held c m in
+      (λ t. ⊎_elim inl (λ p. inr (to c p)) (h.0 t), λ t. h.1 (⊎_elim inl (λ q. inr (from c q)) t));
 }
 
 pub gains_one : {old new : List Range} (x : ℕ) → Gains old new (λ c. (x ≤ c) × (c ≤ x)) → Gains old new (λ c. c ≡ x)
@@ -93,20 +103,38 @@ gains_one x g = gains_as (λ c. c ≡ x) g (λ c h. omega arith) (λ c h. (omega
 pub gains_more : {X : Type 0} {old mid new : List Range} (Q : ℕ → X → Type 0) (xs : List X) (i : ℕ) (x d : X) → i < length xs → x ≡ get_or xs i d → Gains old mid (λ c. SomeOf (Q c) (take i xs)) → Gains mid new (λ c. Q c x) → Gains old new (λ c. SomeOf (Q c) (take (i + 1) xs))
 gains_more Q xs i x d h is a b = record {
   held = λ c m.
-    let e : take (i + 1) xs ≡ take i xs ++ x ∷ [] = take_more xs i d h ∙ ap (λ y. take i xs ++ y ∷ []) (sym is) in
-    let f = a.held c m in
-    let g = b.held c m in
-    (λ t. elim (g.0 t) [
-      | inl before ↦ ⊎_elim inl (λ s. inr (rw e (push_some (Q c) (take i xs) x (inl s)))) (f.0 before)
-      | inr q ↦ inr (rw e (push_some (Q c) (take i xs) x (inr q)))
-    ],
-    λ t. elim t [
-      | inl before ↦ g.1 (inl (f.1 (inl before)))
-      | inr s ↦ elim (some_push (Q c) (take i xs) x (rw e at s)) [ inl earlier ↦ g.1 (inl (f.1 (inr earlier))) | inr q ↦ g.1 (inr q) ]
-    ]);
+      let e : take (i + 1) xs ≡ take i xs ++ x ∷ [] = take_more xs i d h ∙ ap (λ y. take i xs ++ y ∷ []) (sym is) in
+      let f = a.held c m in
+      let g = b.held c m in (
+        λ t. elim (g.0 t) [
+          | inl before ↦ ⊎_elim inl (λ s. inr (rw e (push_some (Q c) (take i xs) x (inl s)))) (f.0 before)
+          | inr q ↦ inr (rw e (push_some (Q c) (take i xs) x (inr q)))
+        ],
+        λ t. elim t [
+          | inl before ↦ g.1 (inl (f.1 (inl before)))
+          | inr s ↦ elim (some_push (Q c) (take i xs) x (rw e at s)) [ inl earlier ↦ g.1 (inl (f.1 (inr earlier))) | inr q ↦ g.1 (inr q) ]
+        ],
+      );
 }
 
 pub gains_all : {X : Type 0} {old new : List Range} (Q : ℕ → X → Type 0) (xs : List X) (i : ℕ) → length xs ≤ i → Gains old new (λ c. SomeOf (Q c) (take i xs)) → Gains old new (λ c. SomeOf (Q c) xs)
 gains_all Q xs i h g =
     let e : take i xs ≡ xs = take_all i xs h in
     rw e at g
+
+-- first what P is true of, and then what Q is true of
+pub gains_both : {old mid new : List Range} {P Q : ℕ → Type 0} (R : ℕ → Type 0) → Gains old mid P → Gains mid new Q → ((c : ℕ) → P c ⊎ Q c → R c) → ((c : ℕ) → R c → P c ⊎ Q c) → Gains old new R
+gains_both R a b to from = record {
+  held = λ c m.
+      let f = a.held c m in
+      let g = b.held c m in (
+        λ t. elim (g.0 t) [
+          | inl before ↦ ⊎_elim inl (λ p. inr (to c (inl p))) (f.0 before)
+          | inr q ↦ inr (to c (inr q))
+        ],
+        λ t. elim t [
+          | inl before ↦ g.1 (inl (f.1 (inl before)))
+          | inr r ↦ elim (from c r) [ inl p ↦ g.1 (inl (f.1 (inr p))) | inr q ↦ g.1 (inr q) ]
+        ],
+      );
+}

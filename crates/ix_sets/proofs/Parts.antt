@@ -1,9 +1,14 @@
 -- Members of a set, one by one.
-use Rattle.std.proofs.Common.{◌≡◌, ℕ, ◌<◌, List, [], ◌∷◌, ◌++◌, length, get_or, zero, suc, inl, inr, flat_map, not-suc-le-zero, le_of_suc-le-suc}
+use Rattle.std.proofs.Common.{◌≡◌, ℕ, ◌<◌, List, [], ◌∷◌, ◌++◌, length, get_or, zero, suc, inl, inr, Any, IsTrue, ◌⊎◌, ⊎_elim, flat_map, not-suc-le-zero, le_of_suc-le-suc}
 use Rattle.std.specs.List.{AllByRecursion}
 use Rattle.ix_model.specs.declared.grammar.Member.{Member}
 use Rattle.ix_model.specs.Sets.{IsOneOf, IsOfMember, IsOfSome}
-use Rattle.ix_sets.proofs.Gaining.{SomeOf}
+use Rattle.std.proofs.lemmas.Bool.{or_cases, or_left, or_right}
+use Rattle.unicode.specs.GeneralCategory.{general_category}
+use Rattle.ix_model.specs.declared.grammar.Member.TheVariants as member
+use Rattle.ix_sets.specs.Kinds.{has_category, IsWritten}
+use Rattle.ix_sets.proofs.Categories.{IsNamed}
+use Rattle.ix_sets.proofs.Gaining.{SomeOf, some_of_any, any_of_some}
 
 pub one_of_some : (c : ℕ) (xs : List ℕ) → SomeOf (λ x. c ≡ x) xs → IsOneOf c xs
 one_of_some c [] h = h
@@ -15,15 +20,43 @@ some_of_one c [] h = h
 some_of_one c (x ∷ xs) (inl h) = inl h
 some_of_one c (x ∷ xs) (inr h) = inr (some_of_one c xs h)
 
-pub member_of_some : (c : ℕ) (ms : List Member) → SomeOf (IsOfMember c) ms → IsOfSome c ms
-member_of_some c [] h = h
-member_of_some c (m ∷ ms) (inl h) = inl h
-member_of_some c (m ∷ ms) (inr h) = inr (member_of_some c ms h)
+-- ---- members that are classes, and others
 
-pub some_of_member : (c : ℕ) (ms : List Member) → IsOfSome c ms → SomeOf (IsOfMember c) ms
-some_of_member c [] h = h
-some_of_member c (m ∷ ms) (inl h) = inl h
-some_of_member c (m ∷ ms) (inr h) = inr (some_of_member c ms h)
+pub written_or_named : (c : ℕ) (m : Member) → IsOfMember c m → IsWritten c m ⊎ IsTrue (has_category (general_category c) m)
+written_or_named c (member.Quoted text) h = inl h
+written_or_named c (member.Code digits) h = inl h
+written_or_named c (member.Range low high) h = inl h
+written_or_named c (member.Class name) h = inr h
+
+written_is : (c : ℕ) (m : Member) → IsWritten c m → IsOfMember c m
+written_is c (member.Quoted text) h = h
+written_is c (member.Code digits) h = h
+written_is c (member.Range low high) h = h
+written_is c (member.Class name) h = absurd h
+
+named_is : (c : ℕ) (m : Member) → IsTrue (has_category (general_category c) m) → IsOfMember c m
+named_is c (member.Quoted text) h = absurd (cc h)
+named_is c (member.Code digits) h = absurd (cc h)
+named_is c (member.Range low high) h = absurd (cc h)
+named_is c (member.Class name) h = h
+
+some_is_one : (c : ℕ) (ms : List Member) → SomeOf (IsWritten c) ms ⊎ IsNamed ms c → IsOfSome c ms
+some_is_one c [] (inl h) = absurd h
+some_is_one c [] (inr h) = absurd (cc h)
+some_is_one c (m ∷ ms) (inl (inl h)) = inl (written_is c m h)
+some_is_one c (m ∷ ms) (inl (inr h)) = inr (some_is_one c ms (inl h))
+some_is_one c (m ∷ ms) (inr h) = elim (or_cases _ _ h) [ inl t ↦ inl (named_is c m t) | inr t ↦ inr (some_is_one c ms (inr t)) ]
+
+one_is_some : (c : ℕ) (ms : List Member) → IsOfSome c ms → SomeOf (IsWritten c) ms ⊎ IsNamed ms c
+one_is_some c [] h = absurd h
+one_is_some c (m ∷ ms) (inl h) = elim (written_or_named c m h) [ inl w ↦ inl (inl w) | inr t ↦ inr (or_left _ _ t) ]
+one_is_some c (m ∷ ms) (inr h) = elim (one_is_some c ms h) [ inl w ↦ inl (inr w) | inr t ↦ inr (or_right _ _ t) ]
+
+pub some_is : (c : ℕ) (ms : List Member) → Any (IsWritten c) ms ⊎ IsNamed ms c → IsOfSome c ms
+some_is c ms h = some_is_one c ms (⊎_elim (λ w. inl (some_of_any (IsWritten c) ms w)) inr h)
+
+pub is_some : (c : ℕ) (ms : List Member) → IsOfSome c ms → Any (IsWritten c) ms ⊎ IsNamed ms c
+is_some c ms h = ⊎_elim (λ w. inl (any_of_some (IsWritten c) ms w)) inr (one_is_some c ms h)
 
 -- ---- what is true of all parts
 

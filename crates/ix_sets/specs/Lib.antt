@@ -1,3 +1,4 @@
 pub mod CharRanges
 pub mod Gains
+pub mod Kinds
 pub mod SetOf

@@ -1,10 +1,13 @@
 //! Classes: the characters of general categories, by the letters that name them.
 
 ghost use Rattle.std.specs.Prelude.{◌≡◌, OnOk, IsTrue};
-ghost use Rattle.ix_model.specs.Classes.{code_of, is_code_in_class, in_class};
+ghost use Rattle.std.specs.List.{list_any};
+ghost use Rattle.ix_model.specs.Classes.{code_of, is_code_in_class};
 ghost use Rattle.ix_sets.specs.Gains.{Gains};
+ghost use Rattle.ix_sets.specs.Kinds.{has_category};
 ghost use Rattle.unicode.specs.GeneralCategory.{general_category};
 
+use ix_model::Member;
 use std::alloc::AllocError;
 use unicode::properties::GeneralCategory;
 use unicode::sets::Set;
@@ -82,33 +85,50 @@ fn code_of(category: GeneralCategory) -> [char; 2]
 }
 
 /// Whether the class has the characters of the category.
-fn has_category(class: &[char], category: GeneralCategory) -> bool
+fn is_in_class(class: &[char], category: GeneralCategory) -> bool
     ensures { result ≡ is_code_in_class class.now (code_of category) }
 {
     !class.is_empty() && code_of(category).starts_with(class)
 }
 
-/// Adds the characters of the category, if the class has them.
+/// Whether the member is a class that has the characters of the category.
+fn has_category(member: &Member, category: GeneralCategory) -> bool
+    ensures { result ≡ has_category category member.now }
+{
+    match member {
+        Member::Class(name) => is_in_class(name.as_slice(), category),
+        _ => false,
+    }
+}
+
+/// Whether some member is a class that has the characters of the category.
+fn is_named(members: &[Member], category: GeneralCategory) -> bool
+    ensures { result ≡ list_any (has_category category) members.now }
+{
+    members.iter().any(|member| has_category(member, category))
+}
+
+/// Adds the characters of the category, if a class among the members has them.
 fn push_category(
     ranges: &mut Vec<(u32, u32)>,
-    class: &[char],
+    members: &[Member],
     category: GeneralCategory,
 ) -> Result<(), AllocError>
-    ensures { OnOk result (Gains ranges.old.items ranges.new.items (λ c. (general_category c ≡ category) × IsTrue (in_class class.now c))) }
+    ensures { OnOk result (Gains ranges.old.items ranges.new.items (λ c. (general_category c ≡ category) × IsTrue (list_any (has_category (general_category c)) members.now))) }
 {
-    if has_category(class, category) {
+    if is_named(members, category) {
         let mut more = Set::Category(category).ranges(*ranges.allocator())?;
         ranges.append(&mut more)?;
     }
     Ok(())
 }
 
-/// Adds the characters of the class.
-pub fn push_class(ranges: &mut Vec<(u32, u32)>, class: &[char]) -> Result<(), AllocError>
-    ensures { OnOk result (Gains ranges.old.items ranges.new.items (λ c. IsTrue (in_class class.now c))) }
+/// Adds the characters of the classes among the members. It goes by categories, so that one that several classes have is added once.
+pub fn push_classes(ranges: &mut Vec<(u32, u32)>, members: &[Member]) -> Result<(), AllocError>
+    ensures { OnOk result (Gains ranges.old.items ranges.new.items (λ c. IsTrue (list_any (has_category (general_category c)) members.now))) }
 {
     for category in CATEGORIES {
-        push_category(ranges, class, category)?;
+        push_category(ranges, members, category)?;
     }
     Ok(())
 }

@@ -2,7 +2,11 @@
 #![tactic(auto)]
 
 mod class;
+pub mod laws;
 mod members;
 mod set;
 
 pub use set::build;
+
+#[cfg(test)]
+mod tests;

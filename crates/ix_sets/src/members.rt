@@ -1,17 +1,18 @@
 //! The members of a set, as ranges in any order, which may overlap or touch.
 
 ghost use Rattle.std.specs.Prelude.{◌≡◌, ◌≤◌, OnOk};
-ghost use Rattle.std.specs.List.{AllByRecursion, flat_map};
+ghost use Rattle.std.specs.List.{AllByRecursion, Any, flat_map};
 ghost use Rattle.ix_model.specs.Breach.{IsCodePoint};
 ghost use Rattle.ix_model.specs.Codes.{code_value, bound_value};
 ghost use Rattle.ix_model.specs.Factors.{codes_of_bound, codes_of_member};
-ghost use Rattle.ix_model.specs.Sets.{IsOneOf, IsOfMember, IsOfSome};
+ghost use Rattle.ix_model.specs.Sets.{IsOneOf, IsOfSome};
 ghost use Rattle.ix_model.specs.Spells.{IsHex};
 ghost use Rattle.ix_sets.specs.Gains.{Gains};
+ghost use Rattle.ix_sets.specs.Kinds.{IsWritten};
 
-use crate::class::push_class;
+use crate::class::push_classes;
 use ix_model::{Bound, Member, code_point};
-use std::alloc::{AllocError, Global};
+use std::alloc::AllocError;
 
 /// The number in hexadecimal digits, where a character has it.
 fn number(digits: &[char]) -> u32
@@ -52,11 +53,11 @@ fn push_text(ranges: &mut Vec<(u32, u32)>, text: &[char]) -> Result<(), AllocErr
     Ok(())
 }
 
-/// Adds the characters of a member.
-fn push_member(ranges: &mut Vec<(u32, u32)>, member: &Member) -> Result<(), AllocError>
+/// Adds the characters of a member, unless it is a class.
+fn push_written(ranges: &mut Vec<(u32, u32)>, member: &Member) -> Result<(), AllocError>
     requires numbers { AllByRecursion IsHex (codes_of_member member.now) }
     requires code_points { AllByRecursion IsCodePoint (codes_of_member member.now) }
-    ensures { OnOk result (Gains ranges.old.items ranges.new.items (λ c. IsOfMember c member.now)) }
+    ensures { OnOk result (Gains ranges.old.items ranges.new.items (λ c. IsWritten c member.now)) }
 {
     match member {
         Member::Quoted(text) => push_text(ranges, text.as_slice()),
@@ -65,8 +66,20 @@ fn push_member(ranges: &mut Vec<(u32, u32)>, member: &Member) -> Result<(), Allo
             push_range(ranges, c, c)
         }
         Member::Range { low, high } => push_range(ranges, bound_number(low), bound_number(high)),
-        Member::Class(name) => push_class(ranges, name.as_slice()),
+        Member::Class(_) => Ok(()),
     }
+}
+
+/// Adds the characters of the members that are no classes.
+fn push_all_written(ranges: &mut Vec<(u32, u32)>, members: &[Member]) -> Result<(), AllocError>
+    requires numbers { AllByRecursion IsHex (flat_map codes_of_member members.now) }
+    requires code_points { AllByRecursion IsCodePoint (flat_map codes_of_member members.now) }
+    ensures { OnOk result (Gains ranges.old.items ranges.new.items (λ c. Any (IsWritten c) members.now)) }
+{
+    for member in members {
+        push_written(ranges, member)?;
+    }
+    Ok(())
 }
 
 /// Adds the characters of the members.
@@ -75,8 +88,6 @@ pub fn push_members(ranges: &mut Vec<(u32, u32)>, members: &[Member]) -> Result<
     requires code_points { AllByRecursion IsCodePoint (flat_map codes_of_member members.now) }
     ensures { OnOk result (Gains ranges.old.items ranges.new.items (λ c. IsOfSome c members.now)) }
 {
-    for member in members {
-        push_member(ranges, member)?;
-    }
-    Ok(())
+    push_all_written(ranges, members)?;
+    push_classes(ranges, members)
 }

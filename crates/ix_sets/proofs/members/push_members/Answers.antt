@@ -1,32 +1,12 @@
-use Rattle.std.proofs.Common.{arith}
-use Rattle.ix_model.specs.Breach.{IsCodePoint}
-use Rattle.ix_model.specs.Factors.{codes_of_member}
-use Rattle.ix_model.specs.Sets.{IsOfMember, IsOfSome}
-use Rattle.ix_model.specs.Spells.{IsHex}
-use Rattle.ix_sets.proofs.Gaining.{gains_nothing, gains_more, gains_all, gains_as}
-use Rattle.ix_sets.proofs.Parts.{member_of_some, some_of_member, all_at}
+use Rattle.std.proofs.lemmas.Result.{on_ok_weaker}
+use Rattle.ix_model.specs.Sets.{IsOfSome}
+use Rattle.ix_sets.proofs.Gaining.{gains_both}
+use Rattle.ix_sets.proofs.Parts.{some_is, is_some}
 use Rattle.ix_sets.proofs.members.push_members.Goals as goal
-
-pub loop-member-init : goal.loop-member-init
-loop-member-init c = gains_nothing _ _ (λ _ h. h)
-
-pub push_member-requires-clause-numbers : goal.push_member-requires-clause-numbers
-push_member-requires-clause-numbers c =
-    let all = all_at codes_of_member IsHex c.args.members.now c.loop-member.member-index c.member-item.result (omega arith) c.requires.numbers in
-    rw c.member-item.is all
-
-pub push_member-requires-clause-code_points : goal.push_member-requires-clause-code_points
-push_member-requires-clause-code_points c =
-    let all = all_at codes_of_member IsCodePoint c.args.members.now c.loop-member.member-index c.member-item.result (omega arith) c.requires.code_points in
-    rw c.member-item.is all
-
-pub loop-member-preserved : goal.loop-member-preserved
-loop-member-preserved c =
-    gains_more IsOfMember c.args.members.now c.loop-member.member-index c.member-item.result c.member-item.result (omega arith) c.member-item.is c.loop-member.invariant
-    c.in_ok-push_member.ensures
 
 pub returns : goal.returns
 returns c =
     let members = c.args.members.now in
-    gains_as (λ c. IsOfSome c members) (gains_all IsOfMember members c.loop-member.member-index c.loop-member-test.false c.loop-member.invariant)
-    (λ c. member_of_some c members) (λ c. some_of_member c members)
+    on_ok_weaker _
+    (λ classes. gains_both (λ c. IsOfSome c members) c.in_ok-push_all_written.ensures classes (λ c. some_is c members) (λ c. is_some c members))
+    c.push_classes.ensures
