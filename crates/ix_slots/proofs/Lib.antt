@@ -1,4 +1,5 @@
 pub mod Counting
 pub mod Dots
 pub mod FewRules
+pub mod ManyRules
 pub mod Standing

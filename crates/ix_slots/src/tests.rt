@@ -1,5 +1,7 @@
-ghost use Rattle.std.specs.Prelude.{◌≡◌, IfOk};
-ghost use Rattle.ix_slots.specs.Examples.{example_rules};
+ghost use Rattle.std.specs.Prelude.{◌≡◌, ◌<◌, ◌^◌, [], ◌∷◌, replicate, IfOk};
+ghost use Rattle.ix_model.specs.Expanded.{line};
+ghost use Rattle.ix_model.specs.ExampleRules.{shown};
+ghost use Rattle.ix_slots.specs.Examples.{example_rules, many_rules};
 
 use crate::{into_parts, matches, plan};
 use ix_model::{CharRange, CharSet, Flat, Kind, Line, Mark, Plan, Rules, Sym, Terminal, Text};
@@ -104,10 +106,72 @@ fn slots_are_numbered_and_parts_come_back(rt: HostRuntime) -> Result<(), Fail> {
     };
     assert_eq!(rt; (plan.sym(0), plan.sym(1)), (Some(literal), Some(digit)));
     assert_eq!(rt; (plan.sym(2), plan.sym(3)), (None, None));
-    assert_eq!(rt; (plan.alt(0), plan.alt(1), plan.alt(2), plan.alt(3)), (0, 0, 0, 1));
+    assert_eq!(rt;
+        (plan.alt(0), plan.alt(1), plan.alt(2), plan.alt(3)),
+        (0, 0, 0, 1)
+    );
     assert_eq!(rt; (plan.head(0), plan.head(3)), (0, 0));
     let parts = into_parts(plan);
     assert_eq!(rt; parts.text.as_slice(), ['a', 'b', '7'].as_slice());
     assert_eq!(rt; parts.rules.terminals.len(), 2);
+    Ok(())
+}
+
+// The numbered rules of `S: "a"; "a".` and so on, with this many alternatives.
+fn rules_of_many_alternatives(alloc: Global, count: u32) -> Result<Rules, AllocError>
+    ensures { IfOk result (λ rules. rules ≡ many_rules count) }
+{
+    let mut names = Items::new(alloc);
+    names.push(Text::from_slice(alloc, &['S'])?)?;
+    let mut terminals = Items::new(alloc);
+    terminals.push(Terminal::Lit(Text::from_slice(alloc, &['a'])?))?;
+    let mut flats = Items::new(alloc);
+    flats.push(Flat {
+        kind: Kind::Named,
+        lines: lines_of_one_literal(alloc, count)?,
+    })?;
+    Ok(Rules {
+        names,
+        marks: Items::from_slice(alloc, &[Mark::Element])?,
+        flats,
+        terminals,
+        inserts: Items::new(alloc),
+    })
+}
+
+fn lines_of_one_literal(alloc: Global, count: u32) -> Result<Items<Line>, AllocError>
+    ensures { IfOk result (λ lines. lines ≡ replicate count (line (shown 0 ∷ []))) }
+{
+    let literal = Sym::Term {
+        terminal: 0,
+        shown: true,
+    };
+    let mut lines = Items::new(alloc);
+    for _made in 0..count {
+        lines.push(Line {
+            syms: Items::from_slice(alloc, &[literal])?,
+        })?;
+    }
+    Ok(lines)
+}
+
+// The plan of these rules for no text.
+fn plan_of_many_alternatives(alloc: Global, count: u32) -> Result<Plan, AllocError>
+    requires { count < 2 ^ 31 }
+{
+    match plan(
+        alloc,
+        rules_of_many_alternatives(alloc, count)?,
+        Vec::new(alloc),
+    ) {
+        Ok(plan) => Ok(plan),
+        Err(_) => Err(AllocError),
+    }
+}
+
+#[test]
+fn many_alternatives_have_their_slots(rt: HostRuntime) -> Result<(), Fail> {
+    let plan = plan_of_many_alternatives(rt.alloc(), 100_000)?;
+    assert_eq!(rt; plan.slot_count(), 200_000);
     Ok(())
 }
