@@ -1,7 +1,6 @@
 -- How many slots there are, and how they come one alternative and one rule after the other.
 use Rattle.std.proofs.Common.{◌≡◌, refl, ap, sym, ◌∙◌, ℕ, zero, suc, ◌+◌, ◌<◌, ◌≤◌, List, [], ◌∷◌, ◌++◌, length, drop, get_or, append_assoc, length-append, arith}
 use Rattle.std.proofs.lemmas.List.{drop_more}
-use Rattle.ix_model.specs.declared.plan.SlotInfo.{SlotInfo}
 use Rattle.ix_model.specs.declared.rules.Line.{Line}
 use Rattle.ix_model.specs.declared.rules.Flat.{Flat}
 use Rattle.ix_model.specs.Numbering.{dots_from, alts_from, rules_from}

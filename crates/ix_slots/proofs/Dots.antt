@@ -1,5 +1,5 @@
 -- The slots of an alternative, counted from the front.
-use Rattle.std.proofs.Common.{◌≡◌, refl, ap, ap₂, ◌∙◌, ℕ, zero, suc, ◌+◌, List, [], ◌∷◌, arith}
+use Rattle.std.proofs.Common.{◌≡◌, refl, ap, ◌∙◌, ℕ, zero, suc, ◌+◌, List, [], ◌∷◌, arith}
 use Rattle.ix_model.specs.declared.plan.SlotInfo.{SlotInfo}
 use Rattle.ix_model.specs.Numbering.{slot, dots_from}
 

@@ -1,12 +1,12 @@
 -- The rules of many alternatives of one literal can be planned.
-use Rattle.std.proofs.Common.{◌≡◌, refl, sym, subst, ℕ, zero, suc, ◌+◌, ◌*◌, ◌<◌, ◌^◌, List, [], ◌∷◌, length, replicate, Some, slice_get, length-append, arith}
+use Rattle.std.proofs.Common.{◌≡◌, refl, subst, ℕ, zero, suc, ◌+◌, ◌*◌, ◌<◌, ◌^◌, List, [], ◌∷◌, length, replicate, Some, slice_get, length-append, arith}
 use Rattle.std.specs.Prelude.{◌↔◌, unwrap_or, option_map}
 use Rattle.ix_model.specs.declared.rules.Kind.TheVariants.{Named}
 use Rattle.ix_model.specs.declared.rules.Sym.{Sym}
 use Rattle.ix_model.specs.declared.rules.Line.{Line}
 use Rattle.ix_model.specs.Expanded.{line}
 use Rattle.ix_model.specs.ExampleRules.{shown}
-use Rattle.ix_model.specs.Numbered.{kind_at, syms_at}
+use Rattle.ix_model.specs.Numbered.{kind_at}
 use Rattle.ix_model.specs.Numbering.{alts_from, numbering}
 use Rattle.ix_model.specs.Planned.{IsThere, AreThere}
 use Rattle.ix_slots.specs.Examples.{many_rules}

@@ -1,4 +1,4 @@
-use Rattle.std.proofs.Common.{◌≡◌, ◌++◌, length, drop}
+use Rattle.std.proofs.Common.{◌≡◌, ◌++◌, drop}
 use Rattle.ix_model.specs.Numbering.{alts_from}
 use Rattle.ix_slots.proofs.numbering.add_alts.Given as goal
 

@@ -1,4 +1,4 @@
-use Rattle.std.proofs.Common.{ap, arith, ◌++◌, ◌+◌, ◌-◌, ◌∷◌, [], ◌∙◌}
+use Rattle.std.proofs.Common.{ap, arith, ◌++◌, ◌+◌, ◌-◌, ◌∷◌, []}
 use Rattle.ix_model.specs.Numbering.{slot}
 use Rattle.ix_slots.proofs.Dots.{dots_are, next_dot}
 use Rattle.ix_slots.proofs.Counting.{added}

@@ -1,4 +1,4 @@
-use Rattle.std.proofs.Common.{ap, ap₂, ◌∙◌, ◌∷◌, [], ◌++◌, List}
+use Rattle.std.proofs.Common.{ap₂, ◌∙◌, ◌∷◌, [], ◌++◌, List}
 use Rattle.std.proofs.lemmas.List.{replicate-append-replicate}
 use Rattle.ix_model.specs.declared.rules.Line.{Line}
 use Rattle.ix_model.specs.declared.rules.Sym.{Sym}
