@@ -14,6 +14,7 @@ pub fn matches(plan: &Plan, terminal: u32, pos: u32) -> Option<u32>
     requires pos { pos ≤ length plan.now.text }
     ensures some { IfSome result (TerminalMatches plan.now.text (terminal_at plan.now.rules terminal) pos) }
     ensures only { (end : ℕ) → TerminalMatches plan.now.text (terminal_at plan.now.rules terminal) pos end → result ≡ Some end }
+    ensures within { IfSome result (λ end. (pos ≤ end) × (end ≤ length plan.now.text)) }
 {
     // What holds of each plan: positions in its text have 32 bits.
     let _ = plan.slot_count();
@@ -24,11 +25,13 @@ pub fn matches(plan: &Plan, terminal: u32, pos: u32) -> Option<u32>
     }
 }
 
+#[tactic(auto, using(crate::proofs::Standing::literal_stands, crate::proofs::Standing::literal_lacks))]
 fn literal_end(text: &[char], literal: &[char], pos: u32) -> Option<u32>
     requires pos { pos ≤ length text.now }
     requires small { length text.now < 2 ^ 32 }
     ensures some { IfSome result (StandsAt text.now literal.now pos) }
     ensures only { (end : ℕ) → StandsAt text.now literal.now pos end → result ≡ Some end }
+    ensures within { IfSome result (λ end. (pos ≤ end) × (end ≤ length text.now)) }
 {
     if text[pos as usize..].starts_with(literal) {
         Some(pos + literal.len() as u32)
@@ -37,10 +40,12 @@ fn literal_end(text: &[char], literal: &[char], pos: u32) -> Option<u32>
     }
 }
 
+#[tactic(auto, using(crate::proofs::Standing::character_stands, crate::proofs::Standing::character_at))]
 fn set_end(text: &[char], set: &CharSet, pos: u32) -> Option<u32>
     requires small { length text.now < 2 ^ 32 }
     ensures some { IfSome result (λ end. (c : ℕ) × IsInRanges c set.now × StandsAt text.now (c ∷ []) pos end) }
     ensures only { (c end : ℕ) → IsInRanges c set.now → StandsAt text.now (c ∷ []) pos end → result ≡ Some end }
+    ensures within { IfSome result (λ end. (pos ≤ end) × (end ≤ length text.now)) }
 {
     match at(text, pos as usize) {
         Some(c) => {
