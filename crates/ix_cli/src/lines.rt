@@ -51,11 +51,7 @@ pub fn message(alloc: Global, answer: &Answer) -> Result<Vec<u8>, AllocError>
     }
 }
 
-#[tactic(auto, using(
-    crate::proofs::LineForms::not_utf8_line,
-    crate::proofs::LineForms::version_line,
-    crate::proofs::LineForms::range_line
-))]
+#[tactic(auto, using(crate::proofs::LineForms::not_utf8_line, crate::proofs::LineForms::version_line, crate::proofs::LineForms::range_line))]
 fn refusal_message(alloc: Global, refusal: &Refusal) -> Result<Vec<u8>, AllocError>
     ensures { IfOk result (λ line. line.items ≡ refusal_line refusal.now) }
 {

@@ -99,8 +99,20 @@ fn answers_a_grammar_and_a_text(rt: HostRuntime) -> Result<(), Fail> {
             b"<S>cz</S>\n".as_slice(),
             b"".as_slice(),
         ),
-        ("S: [\"b\"-\"d\"; \"x\"], ~[\"a\"; N].", "c1", 10, b"".as_slice(), NOT_BUILT),
-        ("S: [\"b\"-\"d\"; \"x\"], ~[\"a\"; N].", "ez", 10, b"".as_slice(), NOT_BUILT),
+        (
+            "S: [\"b\"-\"d\"; \"x\"], ~[\"a\"; N].",
+            "c1",
+            10,
+            b"".as_slice(),
+            NOT_BUILT,
+        ),
+        (
+            "S: [\"b\"-\"d\"; \"x\"], ~[\"a\"; N].",
+            "ez",
+            10,
+            b"".as_slice(),
+            NOT_BUILT,
+        ),
         (
             "S: [\"b\"-\"d\"], ~[].",
             "d~",
@@ -109,7 +121,13 @@ fn answers_a_grammar_and_a_text(rt: HostRuntime) -> Result<(), Fail> {
             b"".as_slice(),
         ),
         ("S: [L], [].", "a", 10, b"".as_slice(), NOT_BUILT),
-        ("S: [\"a\"; \"b\"]; [\"b\"; \"c\"].", "b", 10, b"".as_slice(), NOT_BUILT),
+        (
+            "S: [\"a\"; \"b\"]; [\"b\"; \"c\"].",
+            "b",
+            10,
+            b"".as_slice(),
+            NOT_BUILT,
+        ),
         (
             "S: [\"a\"; \"b\"]; [\"b\"; \"c\"].",
             "c",

@@ -74,7 +74,7 @@ same_added old new c d r s k l n o a b e f h = record {
 pub one_more_member : (old mid new : List Mention) (ms : List Member) (i : ℕ) (m : Member) → i < length ms → m ≡ get_or ms i m → AddsMembers old mid (take i ms) → Adds mid new (codes_of_member m) (ranges_of_member m) (classes_of_member m) [] → AddsMembers old new (take (i + 1) ms)
 one_more_member old mid new ms i m l e h k =
     same_added old new _ _ _ _ _ _ _ _ (one_of_more codes_of_member ms i m l e) (one_of_more ranges_of_member ms i m l e) (one_of_more classes_of_member ms i m l e) refl
-        (then_added old mid new _ _ _ _ _ _ _ _ h k)
+    (then_added old mid new _ _ _ _ _ _ _ _ h k)
 
 -- ---- factors
 
@@ -82,7 +82,7 @@ one_more_member old mid new ms i m l e h k =
 pub then_factors : (old mid new : List Mention) (fs gs : List Factor) → AddsFactors old mid fs → AddsFactors mid new gs → AddsFactors old new (fs ++ gs)
 then_factors old mid new fs gs h k =
     same_added old new _ _ _ _ _ _ _ _ (sym (flat_map-append codes_of_factor fs gs)) (sym (flat_map-append ranges_of_factor fs gs)) (sym (flat_map-append classes_of_factor fs gs)) (sym (flat_map-append calls_of_factor fs gs))
-        (then_added old mid new _ _ _ _ _ _ _ _ h k)
+    (then_added old mid new _ _ _ _ _ _ _ _ h k)
 
 -- one factor alone
 pub one_factor : (old new : List Mention) (f : Factor) → Adds old new (codes_of_factor f) (ranges_of_factor f) (classes_of_factor f) (calls_of_factor f) → AddsFactors old new (f ∷ [])
@@ -92,38 +92,3 @@ one_factor old new f h =
 -- the factors of one more element of a list
 pub one_more : {X : Type 0} (F : X → List Factor) (old mid new : List Mention) (xs : List X) (i : ℕ) (x : X) → i < length xs → x ≡ get_or xs i x → AddsFactors old mid (flat_map F (take i xs)) → AddsFactors mid new (F x) → AddsFactors old new (flat_map F (take (i + 1) xs))
 one_more F old mid new xs i x l e h k = subst (AddsFactors old new) (one_of_more F xs i x l e) (then_factors old mid new (flat_map F (take i xs)) (F x) h k)
-
--- ---- the factors of each form
-
-abbrev Fs : Type 0
-Fs = List Factor
-
-pub of_lit : (m : Option TMark) (cs : Chars) → factors_of_factor (Lit m cs) ≡ Lit m cs ∷ []
-of_lit m cs = fold_lit Fs Fs Fs factor_step term_step alt_step m cs
-
-pub of_set : (m : Option TMark) (exclude : Bool) (ms : List Member) → factors_of_factor (Set m exclude ms) ≡ Set m exclude ms ∷ []
-of_set m exclude ms = fold_set Fs Fs Fs factor_step term_step alt_step m exclude ms
-
-pub of_call : (m : Option Mark) (name : List ℕ) → factors_of_factor (Call m name) ≡ Call m name ∷ []
-of_call m name = fold_call Fs Fs Fs factor_step term_step alt_step m name
-
-pub of_insert : (cs : Chars) → factors_of_factor (Insert cs) ≡ Insert cs ∷ []
-of_insert cs = fold_insert Fs Fs Fs factor_step term_step alt_step cs
-
-pub of_group : (alts : List Alt) → factors_of_factor (Group alts) ≡ flat_map factors_of_alt alts
-of_group alts = fold_group Fs Fs Fs factor_step term_step alt_step alts ∙ flat_map-map (λ fs. fs) factors_of_alt alts
-
-pub of_one : (f : Factor) → factors_of_term (One f) ≡ factors_of_factor f
-of_one f = fold_one Fs Fs Fs factor_step term_step alt_step f
-
-pub of_opt : (f : Factor) → factors_of_term (Opt f) ≡ factors_of_factor f
-of_opt f = fold_opt Fs Fs Fs factor_step term_step alt_step f
-
-pub of_star : (f : Factor) (sep : Option Factor) → factors_of_term (Star f sep) ≡ factors_of_factor f ++ of_separator (option_map factors_of_factor sep)
-of_star f sep = fold_star Fs Fs Fs factor_step term_step alt_step f sep
-
-pub of_plus : (f : Factor) (sep : Option Factor) → factors_of_term (Plus f sep) ≡ factors_of_factor f ++ of_separator (option_map factors_of_factor sep)
-of_plus f sep = fold_plus Fs Fs Fs factor_step term_step alt_step f sep
-
-pub of_alt : (alt : Alt) → factors_of_alt alt ≡ flat_map factors_of_term alt.terms
-of_alt alt = fold_alt Fs Fs Fs factor_step term_step alt_step alt ∙ flat_map-map (λ fs. fs) factors_of_term alt.terms

@@ -85,6 +85,7 @@ one_more_unrepeated names n name none here not_here p other l h = by_place (belo
   where
     below_or_at : (a b : ℕ) → a < b + 1 → (a < b) ⊎ (a ≡ b)
     below_or_at a b k = grind (arith, k)
+
     by_place : (p < n) ⊎ (p ≡ n) → ⊥
     by_place (inl k) = none p other k h
     by_place (inr e) =

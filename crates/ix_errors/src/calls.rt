@@ -45,9 +45,6 @@ pub fn check_calls(alloc: Global, mentions: &[Mention], names: &Names) -> Result
 {
     match first_undefined(mentions, names) {
         None => Ok(()),
-        Some(name) => Err(Breach::Undefined(Text::from_slice(
-            alloc,
-            name.as_slice(),
-        )?)),
+        Some(name) => Err(Breach::Undefined(Text::from_slice(alloc, name.as_slice())?)),
     }
 }

@@ -81,9 +81,6 @@ pub fn check_codes(alloc: Global, mentions: &[Mention]) -> Result<(), Breach>
 {
     match first_wrong_code(mentions) {
         None => Ok(()),
-        Some(digits) => Err(Breach::CodePoint(Text::from_slice(
-            alloc,
-            digits.as_slice(),
-        )?)),
+        Some(digits) => Err(Breach::CodePoint(Text::from_slice(alloc, digits.as_slice())?)),
     }
 }

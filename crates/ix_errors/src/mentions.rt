@@ -39,10 +39,7 @@ fn add_member<'a>(member: &'a Member, mentions: &mut Vec<Mention<'a>>) -> Result
     }
 }
 
-fn add_members<'a>(
-    members: &'a [Member],
-    mentions: &mut Vec<Mention<'a>>,
-) -> Result<(), AllocError>
+fn add_members<'a>(members: &'a [Member], mentions: &mut Vec<Mention<'a>>) -> Result<(), AllocError>
     ensures { OnOk result (AddsMembers mentions.old.items mentions.new.items members.now) }
 {
     for member in members {
@@ -108,10 +105,7 @@ fn add_alts<'a>(alts: &'a [Alt], mentions: &mut Vec<Mention<'a>>) -> Result<(), 
 }
 
 /// What the grammar mentions, in its order.
-pub fn mentions_of<'a>(
-    alloc: Global,
-    grammar: &'a Grammar,
-) -> Result<Vec<Mention<'a>>, AllocError>
+pub fn mentions_of<'a>(alloc: Global, grammar: &'a Grammar) -> Result<Vec<Mention<'a>>, AllocError>
     ensures { IfOk result (λ mentions. AreOf grammar.now mentions.items) }
 {
     let mut mentions = Vec::new(alloc);

@@ -45,9 +45,6 @@ pub fn check_repeats(alloc: Global, rules: &[Rule], names: &Names) -> Result<(),
 {
     match first_repeated(rules, names) {
         None => Ok(()),
-        Some(name) => Err(Breach::Duplicate(Text::from_slice(
-            alloc,
-            name.as_slice(),
-        )?)),
+        Some(name) => Err(Breach::Duplicate(Text::from_slice(alloc, name.as_slice())?)),
     }
 }

@@ -25,10 +25,7 @@ pub fn check_version(alloc: Global, grammar: &Grammar) -> Result<(), Breach>
             if is_one(version) {
                 Ok(())
             } else {
-                Err(Breach::Version(Text::from_slice(
-                    alloc,
-                    version.as_slice(),
-                )?))
+                Err(Breach::Version(Text::from_slice(alloc, version.as_slice())?))
             }
         }
     }

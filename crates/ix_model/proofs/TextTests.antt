@@ -1,5 +1,5 @@
 -- Where characters stand in a text, by what the tests of slices say.
-use Rattle.std.proofs.Common.{◌≡◌, refl, ap, sym, subst, ◌∙◌, ℕ, zero, suc, ◌+◌, ◌-◌, ◌≤◌, List, [], ◌∷◌, length, take, drop, Bool, true, false, Some, None, slice_get, arith, length-take, length-drop}
+use Rattle.std.proofs.Common.{◌≡◌, refl, ap, sym, ◌∙◌, ℕ, zero, suc, ◌+◌, ◌-◌, ◌≤◌, List, [], ◌∷◌, length, take, drop, Bool, true, false, Some, slice_get, arith, length-take, length-drop}
 use Rattle.std.specs.List.{starts_with}
 use Rattle.std.specs.Bool.{Decides}
 use Rattle.std.proofs.Math.Dec.{eqb}

@@ -17,8 +17,6 @@ pub greatest_push : {X : Type 0} (f : X → ℕ) (xs : List X) (x : X) → D.gre
 greatest_push f [] x = omega arith
 greatest_push f (y ∷ xs) x = omega (arith, greatest_push f xs x)
 
-
-
 abbrev pub factor_depth : Factor → ℕ
 factor_depth = fold-Factor ℕ ℕ ℕ D.factor_step D.term_step D.alt_step
 

@@ -187,12 +187,7 @@ fn quoted_bound(part: Part, low: Bound, work: Work, text: Text) -> Result<State,
 }
 
 /// Behind the `-` of a range.
-pub fn range_ends(
-    part: Part,
-    low: Bound,
-    work: Work,
-    lexeme: Lexeme,
-) -> Result<State, ReadFault>
+pub fn range_ends(part: Part, low: Bound, work: Work, lexeme: Lexeme) -> Result<State, ReadFault>
     ensures { (gap : Bool) → Gives state_of result (step (range_to (part_of part) low) (work_of work) gap (lexeme_of lexeme)) }
 {
     match lexeme {

@@ -9,6 +9,7 @@ use Rattle.ix_model.specs.declared.grammar.Member.TheVariants as member
 use Rattle.ix_sets.specs.Kinds.{has_category, IsWritten}
 use Rattle.ix_sets.proofs.Categories.{IsNamed}
 use Rattle.ix_sets.proofs.Gaining.{SomeOf, some_of_any, any_of_some}
+use Rattle.ix_model.proofs.AllOf.{all_left, all_right}
 
 pub one_of_some : (c : ℕ) (xs : List ℕ) → SomeOf (λ x. c ≡ x) xs → IsOneOf c xs
 one_of_some c [] h = h
@@ -59,14 +60,6 @@ pub is_some : (c : ℕ) (ms : List Member) → IsOfSome c ms → Any (IsWritten 
 is_some c ms h = ⊎_elim (λ w. inl (any_of_some (IsWritten c) ms w)) inr (one_is_some c ms h)
 
 -- ---- what is true of all parts
-
-all_left : {Y : Type 0} (P : Y → Type 0) (xs ys : List Y) → AllByRecursion P (xs ++ ys) → AllByRecursion P xs
-all_left P [] ys h = tt
-all_left P (x ∷ xs) ys h = (h.0, all_left P xs ys h.1)
-
-all_right : {Y : Type 0} (P : Y → Type 0) (xs ys : List Y) → AllByRecursion P (xs ++ ys) → AllByRecursion P ys
-all_right P [] ys h = h
-all_right P (x ∷ xs) ys h = all_right P xs ys h.1
 
 -- of the parts of an element at its place
 pub all_at : {X Y : Type 0} (f : X → List Y) (P : Y → Type 0) (xs : List X) (i : ℕ) (d : X) → i < length xs → AllByRecursion P (flat_map f xs) → AllByRecursion P (f (get_or xs i d))

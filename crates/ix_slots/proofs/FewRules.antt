@@ -11,8 +11,8 @@ use Rattle.ix_model.specs.declared.rules.Sym.{Sym}
 use Rattle.ix_model.specs.declared.rules.Rules.{Rules}
 use Rattle.ix_model.specs.Expanded as X
 use Rattle.ix_model.specs.Expanded.{Next, TermBecomes, RepeatBecomes, SeparatorBecomes, FactorBecomes, AltsBecome, TermsBecome, RulesBecome, Expanded}
-use Rattle.ix_reader.specs.Size.{alt_size, rule_size, size}
-use Rattle.ix_reader.proofs.Folded.{factor_size, term_size, terms_size, alts_size, rules_size, size_group, size_one, size_opt, size_star, size_star_by, size_plus, size_plus_by, size_alt}
+use Rattle.ix_model.specs.Size.{factor_size, term_size, alt_size, rule_size, size}
+use Rattle.ix_model.proofs.Sizes.{terms_size, alts_size, rules_size, size_group, size_one, size_opt, size_star, size_star_by, size_plus, size_plus_by, size_alt}
 
 sum_next : {A : Type 0} (f : A → ℕ) (x : A) (xs : List A) → sum (map f (x ∷ xs)) ≡ f x + sum (map f xs)
 sum_next f x xs = sum_by-cons (λ n. n) (f x) (map f xs)

@@ -2,4 +2,3 @@ pub mod Counting
 pub mod Dots
 pub mod FewRules
 pub mod ManyRules
-pub mod Standing

@@ -25,7 +25,7 @@ pub fn matches(plan: &Plan, terminal: u32, pos: u32) -> Option<u32>
     }
 }
 
-#[tactic(auto, using(crate::proofs::Standing::literal_stands, crate::proofs::Standing::literal_lacks))]
+#[tactic(auto, using(ix_model::proofs::TextTests::literal_stands, ix_model::proofs::TextTests::literal_lacks))]
 fn literal_end(text: &[char], literal: &[char], pos: u32) -> Option<u32>
     requires pos { pos ≤ length text.now }
     requires small { length text.now < 2 ^ 32 }
@@ -40,7 +40,7 @@ fn literal_end(text: &[char], literal: &[char], pos: u32) -> Option<u32>
     }
 }
 
-#[tactic(auto, using(crate::proofs::Standing::character_stands, crate::proofs::Standing::character_at))]
+#[tactic(auto, using(ix_model::proofs::TextTests::character_stands, ix_model::proofs::TextTests::character_at))]
 fn set_end(text: &[char], set: &CharSet, pos: u32) -> Option<u32>
     requires small { length text.now < 2 ^ 32 }
     ensures some { IfSome result (λ end. (c : ℕ) × IsInRanges c set.now × StandsAt text.now (c ∷ []) pos end) }

@@ -7,5 +7,5 @@ use Rattle.ix_errors.proofs.classes.unknown.Goals as goal
 pub returns-else-is_known : goal.returns-else-is_known
 returns-else-is_known c =
     alone IsKnownClass _ _ (ap class_in c.in-Class.is) (λ known.
-        let e : false ≡ true = sym c.if-is_known.false ∙ c.is_known.ensures.1 (subst IsKnownClass (sym c.as_slice.ensures) known) in
-        cc e)
+    let e : false ≡ true = sym c.if-is_known.false ∙ c.is_known.ensures.1 (subst IsKnownClass (sym c.as_slice.ensures) known) in
+    cc e)

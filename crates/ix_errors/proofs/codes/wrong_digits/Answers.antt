@@ -6,5 +6,5 @@ use Rattle.ix_errors.proofs.codes.wrong_digits.Goals as goal
 pub returns-in-None : goal.returns-in-None
 returns-in-None c =
     alone IsCodePoint (c.args.digits.now ∷ []) c.args.digits.now refl (λ known.
-        let e : false ≡ true = c.in-None.ensures.known.1 (subst IsCodePoint (sym c.as_slice.ensures) known) in
-        cc e)
+    let e : false ≡ true = c.in-None.ensures.known.1 (subst IsCodePoint (sym c.as_slice.ensures) known) in
+    cc e)

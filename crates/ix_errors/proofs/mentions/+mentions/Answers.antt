@@ -3,7 +3,8 @@ use Rattle.std.specs.List.{flat_map}
 use Rattle.ix_model.specs.declared.grammar.Factor.{Factor}
 use Rattle.ix_model.specs.Factors.{factors_of_factor, factors_of_term, factors_of_alt}
 use Rattle.ix_errors.specs.Mentions.{AddsFactors}
-use Rattle.ix_errors.proofs.Adding.{of_group, of_alt, one_more}
+use Rattle.ix_model.proofs.FactorLists.{of_group, of_alt}
+use Rattle.ix_errors.proofs.Adding.{one_more}
 use Rattle.ix_errors.proofs.mentions.+mentions.Goals as goal
 
 pub add_alts-loop-alt-preserved : goal.add_alts-loop-alt-preserved
@@ -17,5 +18,5 @@ add_alts-loop-alt-preserved t c =
 pub add_factor-returns-in-Group : goal.add_factor-returns-in-Group
 add_factor-returns-in-Group t c =
     let of_alts : flat_map factors_of_alt c.as_slice-in-Group.result.now ≡ factors_of_factor c.args.factor.now =
-        ap (flat_map factors_of_alt) c.as_slice-in-Group.ensures ∙ sym (of_group c.in-Group.alts) ∙ ap factors_of_factor (sym c.in-Group.is) in
+    ap (flat_map factors_of_alt) c.as_slice-in-Group.ensures ∙ sym (of_group c.in-Group.alts) ∙ ap factors_of_factor (sym c.in-Group.is) in
     subst (λ (fs : List Factor). OnOk c.add_alts.result (AddsFactors c.args.mentions.now.items c.add_alts.new.mentions.items fs)) of_alts c.add_alts.ensures
