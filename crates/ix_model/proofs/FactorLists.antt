@@ -8,7 +8,7 @@ use Rattle.ix_model.specs.declared.grammar.TMark.{TMark}
 use Rattle.ix_model.specs.declared.grammar.Chars.{Chars}
 use Rattle.ix_model.specs.declared.grammar.Member.{Member}
 use Rattle.ix_model.specs.declared.grammar.Alt.{Alt}
-use Rattle.ix_model.specs.declared.grammar.Term.{Term, One, Opt, Star, Plus}
+use Rattle.ix_model.specs.declared.grammar.Term.{One, Opt, Star, Plus}
 use Rattle.ix_model.specs.declared.grammar.Factor.{Factor, Lit, Set, Call, Insert, Group}
 use Rattle.ix_model.specs.Factors.{factor_step, term_step, alt_step, of_separator, factors_of_factor, factors_of_term, factors_of_alt}
 use Rattle.ix_model.proofs.Folds.{fold_lit, fold_set, fold_call, fold_insert, fold_group, fold_one, fold_opt, fold_star, fold_plus, fold_alt}

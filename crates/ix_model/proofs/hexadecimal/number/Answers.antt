@@ -1,4 +1,4 @@
-use Rattle.std.proofs.Common.{rules, ◌≡◌, ◌+◌, ◌*◌, ◌≤◌, drop, arith}
+use Rattle.std.proofs.Common.{rules, ◌≡◌, ◌+◌, ◌*◌, drop, arith}
 use Rattle.std.proofs.lemmas.List.{drop_more}
 use Rattle.ix_model.specs.Codes.{code_value, value_after}
 use Rattle.ix_model.proofs.HexDigits.{value_grows}
