@@ -1,20 +1,18 @@
 -- From the tests, one after the other, to the least code.
-use Rattle.std.proofs.Common.{◌≡◌, refl, ap, sym, ◌∙◌, subst, ℕ, ◌<◌, ◌≤◌, List, [], ◌∷◌, ◌++◌, Option, Some, None, codes, arith}
-use Rattle.std.specs.Prelude.{IfSome, slice_get, Result, Ok, Err, OnOk, IfOk, IfErr}
+use Rattle.std.proofs.Common.{◌≡◌, refl, ap, sym, ◌∙◌, subst, ℕ, ◌≤◌, List, [], ◌∷◌, Option, Some, None, codes, arith}
+use Rattle.std.specs.Prelude.{IfSome, Result, Ok, Err, OnOk, IfOk, IfErr}
 use Rattle.std.specs.List.{AllByRecursion, flat_map}
 use Rattle.ix_model.specs.declared.grammar.Grammar.{Grammar}
 use Rattle.ix_model.specs.Laws.{HasUniqueNames}
-use Rattle.ix_model.specs.Written.{IsNamed}
 use Rattle.ix_model.specs.Names.{names_of}
 use Rattle.ix_model.specs.Factors.{codes_of, ranges_of, classes_of, calls_of}
 use Rattle.ix_model.specs.Breach as of
 use Rattle.ix_model.specs.Breach.{Fault, code_point, class, undefined, duplicate, code_number, IsFirstNot, IsCodePoint, IsRising, IsKnownClass, IsDefined, IsRepeated, LeastBreach}
-use Rattle.ix_model.specs.ConformanceLaws.{IsFaultless}
-use Rattle.ix_model.proofs.Judging.{above_version, above_codes, above_ranges, above_classes, above_calls, unrefused, named_below, unique_where_none_repeats}
+use Rattle.ix_model.proofs.Judging.{above_version, above_codes, above_ranges, above_classes, above_calls, unrefused, unique_where_none_repeats}
 use Rattle.ix_model.proofs.FirstNames.{named_at, name_at}
 use Rattle.ix_errors.specs.declared.breach.Breach.{Breach}
 use Rattle.ix_errors.specs.Breaches.{fault_of, IsLeast, IsOfCode, NamesFirst, NamesRepeated, falling}
-use Rattle.ix_errors.specs.Firsts.{IsAmong, IsRepeatedAt, NoneRepeatedBelow, IsSearchForRepeated}
+use Rattle.ix_errors.specs.Firsts.{IsAmong, IsRepeatedAt, IsSearchForRepeated}
 use Rattle.ix_errors.specs.Mentions.{code_in, range_in, class_in, call_in, AreOf}
 use Rattle.ix_errors.specs.declared.mention.Mention.{Mention}
 

@@ -1,8 +1,7 @@
 -- The codes of classes by their letters.
-use Rattle.std.proofs.Common.{◌≡◌, refl, ap, sym, ◌∙◌, subst, ℕ, ◌<◌, ◌≤◌, Bool, true, false, nat_eq, List, [], ◌∷◌, length, get_or, codes, arith}
+use Rattle.std.proofs.Common.{◌≡◌, refl, ap, sym, ◌∙◌, subst, ℕ, Bool, true, false, nat_eq, List, [], ◌∷◌, length, get_or, codes, arith}
 use Rattle.std.specs.Prelude.{IsTrue, not, ◌||◌, if◌then◌else◌, ◌↔◌}
 use Rattle.std.specs.List.{AllByRecursion, list_any}
-use Rattle.std.specs.Str.{bytes_eq}
 use Rattle.std.proofs.lemmas.Slice.Eq.{bytes_eq-Decides}
 use Rattle.std.proofs.lemmas.Bool.Decides.{nat_tests}
 use Rattle.ucd_category.specs.declared.GeneralCategory.{GeneralCategory}

@@ -1,4 +1,5 @@
 pub mod Breaches
 pub mod Firsts
 pub mod KnownClasses
+pub mod Laws
 pub mod Mentions

@@ -6,6 +6,7 @@ mod calls;
 mod classes;
 mod codes;
 mod conformance;
+pub mod laws;
 mod mention;
 mod mentions;
 mod ranges;
@@ -14,3 +15,6 @@ mod version;
 
 pub use breach::Breach;
 pub use conformance::check;
+
+#[cfg(test)]
+mod tests;

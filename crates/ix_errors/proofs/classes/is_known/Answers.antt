@@ -1,4 +1,4 @@
-use Rattle.std.proofs.Common.{◌≡◌, ◌∙◌, ap, length, nat_eq, List, ℕ, arith}
+use Rattle.std.proofs.Common.{◌∙◌, ap, length, nat_eq, List, ℕ, arith}
 use Rattle.std.specs.List.{list_any}
 use Rattle.ix_errors.proofs.Letters.{known_by_first, known_by_both}
 use Rattle.ix_errors.proofs.classes.is_known.Goals as goal

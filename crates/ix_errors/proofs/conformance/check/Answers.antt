@@ -1,5 +1,4 @@
 use Rattle.std.proofs.Common.{◌≡◌, ℕ, List, sym, ◌∙◌, ap, subst, rules}
-use Rattle.ix_errors.specs.declared.mention.Mention.{Mention}
 use Rattle.ix_errors.specs.Mentions.{AreOf}
 use Rattle.ix_model.specs.Names.{names_of}
 use Rattle.ix_errors.proofs.Judged.{least_range, least_class, least_call, last_ok, last_err}

@@ -3,7 +3,6 @@ use Rattle.std.specs.List.{AllByRecursion}
 use Rattle.ix_model.specs.Breach.{IsCodePoint, IsRising}
 use Rattle.ix_model.specs.Spells.{IsHex}
 use Rattle.ix_errors.specs.declared.mention.Mention.{Mention}
-use Rattle.ix_errors.specs.Firsts.{IsAmong}
 use Rattle.ix_errors.specs.Mentions.{code_in, range_in}
 use Rattle.ix_errors.proofs.Searching.{all_at, found_at}
 use Rattle.ix_errors.proofs.ranges.first_falling.Goals as goal

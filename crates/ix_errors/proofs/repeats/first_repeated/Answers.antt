@@ -1,4 +1,4 @@
-use Rattle.std.proofs.Common.{◌≡◌, List, length, refl, sym, ap, ◌∙◌, arith}
+use Rattle.std.proofs.Common.{length, refl, ap, ◌∙◌, arith}
 use Rattle.std.proofs.lemmas.List.{length-map}
 use Rattle.ix_model.specs.declared.grammar.Rule.{Rule}
 use Rattle.ix_errors.proofs.Searching.{one_more_unrepeated, none_repeated, name_here}
