@@ -1,0 +1,16 @@
+//! The numbered rules of a grammar: helper rules stand for groups, options and repetitions.
+#![tactic(auto)]
+
+mod characters;
+pub mod laws;
+mod leaves;
+mod lines;
+mod made;
+mod rules;
+mod source;
+mod walk;
+
+pub use rules::expand;
+
+#[cfg(test)]
+mod tests;
