@@ -1,11 +1,11 @@
 pub mod Alone
 pub mod Bounds
 pub mod Conforms
-pub mod Faultless
 pub mod Growing
 pub mod Lists
 pub mod Naming
 pub mod Places
+pub mod PlanOf
 pub mod Sequences
 pub mod Sounds
 pub mod Whole

@@ -12,30 +12,18 @@ use Rattle.ix_model.specs.Spells.{IsHex}
 use Rattle.ix_model.specs.Factors.{factor_step, term_step, alt_step, joined, of_separator, factors_of_factor, factors_of_term, factors_of, codes_of_factor, calls_of_factor}
 use Rattle.ix_model.proofs.Folds as F
 use Rattle.ix_expand.specs.Sound.{IsSound}
-use Rattle.ix_expand.proofs.Faultless.{without_fault}
+use Rattle.ix_model.proofs.AllOf.{all_left, all_right, all_parts}
+use Rattle.ix_model.proofs.Judging.{faultless}
 use Rattle.ix_expand.proofs.Sequences.{drop_item}
 
 module _ {X : Type 0} (P : X → Type 0) where
-  pub all_left : (xs ys : List X) → AllByRecursion P (xs ++ ys) → AllByRecursion P xs
-  all_left [] ys h = tt
-  all_left (x ∷ xs) ys h = (h.0, all_left xs ys h.1)
-
-  pub all_right : (xs ys : List X) → AllByRecursion P (xs ++ ys) → AllByRecursion P ys
-  all_right [] ys h = h
-  all_right (x ∷ xs) ys h = all_right xs ys h.1
-
-  -- of lists one behind the other, and of each of them
-  pub all_of_each : {Y : Type 0} (f : Y → List X) (ys : List Y) → AllByRecursion P (flat_map f ys) → AllByRecursion (λ y. AllByRecursion P (f y)) ys
-  all_of_each f [] h = tt
-  all_of_each f (y ∷ ys) h = (all_left (f y) (flat_map f ys) h, all_of_each f ys (all_right (f y) (flat_map f ys) h))
-
   -- of what is left of a list: of the next, and of those behind it
   module _ {Y : Type 0} (f : Y → List X) where
     pub flat_next : (ys : List Y) (i : ℕ) (y : Y) → i < length ys → y ≡ slice_index_or ys i y → AllByRecursion P (flat_map f (drop i ys)) → AllByRecursion P (f y)
-    flat_next ys i y l e h = all_left (f y) (flat_map f (drop (i + 1) ys)) (subst (λ (zs : List Y). AllByRecursion P (flat_map f zs)) (drop_item ys i y l e) h)
+    flat_next ys i y l e h = all_left P (f y) (flat_map f (drop (i + 1) ys)) (subst (λ (zs : List Y). AllByRecursion P (flat_map f zs)) (drop_item ys i y l e) h)
 
     pub flat_behind : (ys : List Y) (i : ℕ) (y : Y) → i < length ys → y ≡ slice_index_or ys i y → AllByRecursion P (flat_map f (drop i ys)) → AllByRecursion P (flat_map f (drop (i + 1) ys))
-    flat_behind ys i y l e h = all_right (f y) (flat_map f (drop (i + 1) ys)) (subst (λ (zs : List Y). AllByRecursion P (flat_map f zs)) (drop_item ys i y l e) h)
+    flat_behind ys i y l e h = all_right P (f y) (flat_map f (drop (i + 1) ys)) (subst (λ (zs : List Y). AllByRecursion P (flat_map f zs)) (drop_item ys i y l e) h)
 
 module _ (P : Factor → Type 0) where
   abbrev All : List Factor → Type 0
@@ -67,10 +55,10 @@ module _ (P : Factor → Type 0) where
 
 -- the factors of a conforming grammar are sound
 pub conforming_sound : (g : Grammar) → Conforming g → AllByRecursion (IsSound g) (factors_of g)
-conforming_sound g c = sound (factors_of g) (all_of_each IsHex codes_of_factor _ c.numbers) (all_of_each IsCodePoint codes_of_factor _ faultless.code_points) (all_of_each (IsDefined g) calls_of_factor _ faultless.calls)
+conforming_sound g c = sound (factors_of g) (all_parts IsHex codes_of_factor _ c.numbers) (all_parts IsCodePoint codes_of_factor _ unbroken.code_points) (all_parts (IsDefined g) calls_of_factor _ unbroken.calls)
   where
-    faultless : IsFaultless g
-    faultless = without_fault g c
+    unbroken : IsFaultless g
+    unbroken = faultless g c.no_breach
 
     sound : (fs : List Factor) → AllByRecursion (λ f. AllByRecursion IsHex (codes_of_factor f)) fs → AllByRecursion (λ f. AllByRecursion IsCodePoint (codes_of_factor f)) fs → AllByRecursion (λ f. AllByRecursion (IsDefined g) (calls_of_factor f)) fs → AllByRecursion (IsSound g) fs
     sound [] n p d = tt

@@ -1,4 +1,4 @@
-use Rattle.ix_expand.proofs.Faultless.{plan_of}
+use Rattle.ix_expand.proofs.PlanOf.{plan_of}
 use Rattle.ix_expand.proofs.laws.expansion_lifts.Goals as goal
 
 pub returns : goal.returns
