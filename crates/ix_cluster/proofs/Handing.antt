@@ -1,0 +1,141 @@
+-- the pairs that were handed out, as facts are recorded
+use Rattle.std.proofs.Common.{◌≡◌, ℕ, ◌+◌, ◌*◌, ◌^◌, ◌≤◌, ◌<◌, Bool, true, false, cond, List, [], ◌∷◌, ◌++◌, length, Some, None, refl, ap, ◌∙◌, arith, ◌⊎◌, inl, inr}
+use Rattle.std.specs.List.{cons_option}
+use Rattle.std.proofs.Math.Nat.{mul-le-mul}
+use Rattle.ix_model.specs.Parts.{Parts}
+use Rattle.ix_model.specs.declared.sub.Sub.{Sub}
+use Rattle.ix_cluster.specs.declared.fact.Fact.{Fact}
+use Rattle.ix_cluster.specs.declared.fact.Fact.TheVariants.{Called, Edge, End, Desc, Part, Claim}
+use Rattle.ix_cluster.specs.Facts.{has, put}
+use Rattle.ix_cluster.specs.Room.{tally}
+use Rattle.ix_cluster.specs.Lists.{cluster, same_cluster}
+use Rattle.ix_cluster.specs.Firsts.{is_at_end, firsts_of}
+use Rattle.ix_cluster.specs.Steps.{empty_sub, end_of, edges_in, ends_in, after_first, after_firsts, after_call, after_claim, after_arrival}
+use Rattle.ix_cluster.specs.Handed.{meets, pair_count}
+use Rattle.ix_cluster.proofs.Counts.{either, put-old, put-new}
+use Rattle.ix_cluster.proofs.Listing.{kept-call, has-call_edge}
+
+pub tally-push : (p : Fact → Bool) (xs : List Fact) (f : Fact) → tally p (xs ++ f ∷ []) ≡ tally p xs + cond (p f) 1 0
+tally-push p [] f = grind arith
+tally-push p (x ∷ xs) f = grind (arith, tally-push p xs f)
+
+pub handed-push : (log : List Fact) (f : Fact) → pair_count (log ++ f ∷ []) ≡ pair_count log + tally (λ g. meets g f) log
+handed-push [] f = refl
+handed-push (g ∷ log) f = omega (arith, handed-push log f, tally-push (meets g) log f)
+
+tally-none : (p : Fact → Bool) → ((g : Fact) → p g ≡ false) → (xs : List Fact) → tally p xs ≡ 0
+tally-none p h [] = refl
+tally-none p h (x ∷ xs) = grind (arith, tally-none p h xs, h x)
+
+-- a fact that meets none hands out nothing
+pub handed-put_other : (log : List Fact) (f : Fact) → ((g : Fact) → meets g f ≡ false) → pair_count (put log f) ≡ pair_count log
+handed-put_other log f none = by (either (has log f))
+  where
+    by : (has log f ≡ true) ⊎ (has log f ≡ false) → pair_count (put log f) ≡ pair_count log
+    by (inl e) = ap pair_count (put-old log f e)
+    by (inr e) = ap pair_count (put-new log f e) ∙ omega (arith, handed-push log f, tally-none (λ g. meets g f) none log)
+
+pub called-none : (r k : ℕ) (g : Fact) → meets g (Called r k) ≡ false
+called-none r k (Edge _ _ _ _) = refl
+called-none r k (End _ _ _) = refl
+called-none r k g = refl
+
+pub desc-none : (s l p : ℕ) (g : Fact) → meets g (Desc s l p) ≡ false
+desc-none s l p (Edge _ _ _ _) = refl
+desc-none s l p (End _ _ _) = refl
+desc-none s l p g = refl
+
+pub part-none : (sub : Sub) (g : Fact) → meets g (Part sub) ≡ false
+part-none sub (Edge _ _ _ _) = refl
+part-none sub (End _ _ _) = refl
+part-none sub g = refl
+
+pub claim-none : (s l p : ℕ) (g : Fact) → meets g (Claim s l p) ≡ false
+claim-none s l p (Edge _ _ _ _) = refl
+claim-none s l p (End _ _ _) = refl
+claim-none s l p g = refl
+
+handed-first : (plan : Parts) (k : ℕ) (log : List Fact) (s : ℕ) → pair_count (after_first plan k log s) ≡ pair_count log
+handed-first plan k log s = by (is_at_end plan s)
+  where
+    by : (b : Bool) → pair_count (cond b (put (put log (Desc s k k)) (Part (empty_sub s k))) (put log (Desc s k k))) ≡ pair_count log
+    by true = handed-put_other (put log (Desc s k k)) (Part (empty_sub s k)) (part-none _) ∙ handed-put_other log (Desc s k k) (desc-none s k k)
+    by false = handed-put_other log (Desc s k k) (desc-none s k k)
+
+handed-after_firsts : (plan : Parts) (k : ℕ) (firsts : List ℕ) (log : List Fact) → pair_count (after_firsts plan k firsts log) ≡ pair_count log
+handed-after_firsts plan k [] log = refl
+handed-after_firsts plan k (s ∷ ss) log = handed-after_firsts plan k ss (after_first plan k log s) ∙ handed-first plan k log s
+
+pub handed-call : (plan : Parts) (log : List Fact) (r k : ℕ) → pair_count (after_call plan log r k) ≡ pair_count log
+handed-call plan log r k = by (has log (Called r k))
+  where
+    by : (b : Bool) → pair_count (cond b log (after_firsts plan k (firsts_of plan r) (put log (Called r k)))) ≡ pair_count log
+    by true = refl
+    by false = handed-after_firsts plan k (firsts_of plan r) (put log (Called r k)) ∙ handed-put_other log (Called r k) (called-none r k)
+
+pub handed-claim : (log : List Fact) (s l p : ℕ) → pair_count (after_claim log s l p) ≡ pair_count log
+handed-claim log s l p = by (has log (Desc s l p))
+  where
+    by : (b : Bool) → pair_count (cond b (put log (Claim s l p)) log) ≡ pair_count log
+    by true = handed-put_other log (Claim s l p) (claim-none s l p)
+    by false = refl
+
+pub handed-arrive : (log : List Fact) (sub : Sub) → pair_count (after_arrival log sub) ≡ pair_count log
+handed-arrive log sub = handed-put_other (put log (Part sub)) (Desc sub.slot sub.left sub.right) (desc-none _ _ _) ∙ handed-put_other log (Part sub) (part-none sub)
+
+-- an edge meets the ends of its cluster
+ends-met : (log : List Fact) (r k s l : ℕ) → tally (λ g. meets g (Edge r k s l)) log ≡ length (ends_in log (cluster r k))
+ends-met [] r k s l = refl
+ends-met (Called r' k' ∷ log) r k s l = omega (arith, ends-met log r k s l)
+ends-met (Edge r' k' s' l' ∷ log) r k s l = omega (arith, ends-met log r k s l)
+ends-met (End r' k' e' ∷ log) r k s l = by (same_cluster (cluster r' k') (cluster r k)) (ends-met log r k s l)
+  where
+    by : (b : Bool) → tally (λ g. meets g (Edge r k s l)) log ≡ length (ends_in log (cluster r k)) → cond b 1 0 + tally (λ g. meets g (Edge r k s l)) log ≡ length (cons_option (cond b (Some e') None) (ends_in log (cluster r k)))
+    by true rest = omega (arith, rest)
+    by false rest = omega (arith, rest)
+ends-met (Desc s' l' p' ∷ log) r k s l = omega (arith, ends-met log r k s l)
+ends-met (Part sub ∷ log) r k s l = omega (arith, ends-met log r k s l)
+ends-met (Claim s' l' p' ∷ log) r k s l = omega (arith, ends-met log r k s l)
+
+edges-met : (log : List Fact) (r k e : ℕ) → tally (λ g. meets g (End r k e)) log ≡ length (edges_in log (cluster r k))
+edges-met [] r k e = refl
+edges-met (Called r' k' ∷ log) r k e = omega (arith, edges-met log r k e)
+edges-met (Edge r' k' s' l' ∷ log) r k e = by (same_cluster (cluster r' k') (cluster r k)) (edges-met log r k e)
+  where
+    by : (b : Bool) → tally (λ g. meets g (End r k e)) log ≡ length (edges_in log (cluster r k)) → cond b 1 0 + tally (λ g. meets g (End r k e)) log ≡ length (cons_option (cond b (Some (record { slot = s'; left = l' })) None) (edges_in log (cluster r k)))
+    by true rest = omega (arith, rest)
+    by false rest = omega (arith, rest)
+edges-met (End r' k' e' ∷ log) r k e = omega (arith, edges-met log r k e)
+edges-met (Desc s' l' p' ∷ log) r k e = omega (arith, edges-met log r k e)
+edges-met (Part sub ∷ log) r k e = omega (arith, edges-met log r k e)
+edges-met (Claim s' l' p' ∷ log) r k e = omega (arith, edges-met log r k e)
+
+-- a new edge hands out the ends of its cluster
+pub handed-edge : (log : List Fact) (r k s l : ℕ) → has log (Edge r k s l) ≡ false → pair_count (put log (Edge r k s l)) ≡ pair_count log + length (ends_in log (cluster r k))
+handed-edge log r k s l none = ap pair_count (put-new log (Edge r k s l) none) ∙ omega (arith, handed-push log (Edge r k s l), ends-met log r k s l)
+
+-- a new end hands out the edges of its cluster
+pub handed-end : (log : List Fact) (r k e : ℕ) → has log (End r k e) ≡ false → pair_count (put log (End r k e)) ≡ pair_count log + length (edges_in log (cluster r k))
+handed-end log r k e none = ap pair_count (put-new log (End r k e) none) ∙ omega (arith, handed-push log (End r k e), edges-met log r k e)
+
+tally-le : (p : Fact → Bool) (xs : List Fact) → tally p xs ≤ length xs
+tally-le p [] = omega arith
+tally-le p (x ∷ xs) = grind (arith, tally-le p xs)
+
+-- so many pairs there are at most
+pub handed-le : (log : List Fact) → pair_count log ≤ length log * length log
+handed-le [] = omega arith
+handed-le (f ∷ log) = grind (arith, handed-le log, tally-le (meets f) log)
+
+pub handed-small : (log : List Fact) → length log < 2 ^ 57 → pair_count log < 2 ^ 115
+handed-small log h =
+    let less : length log ≤ 2 ^ 57 = omega arith in
+    omega (arith, handed-le log, mul-le-mul less less)
+
+pub handed-after_end : (log new : List Fact) (r k e handed len : ℕ) → has log (End r k e) ≡ false → new ≡ put log (End r k e) → handed ≡ pair_count log → len ≡ length (edges_in log (cluster r k)) → handed + len ≡ pair_count new
+handed-after_end log new r k e handed len none is h l = rw is (omega (arith, handed-end log r k e none))
+
+pub handed-after_edge : (plan : Parts) (log new : List Fact) (r k s l handed len : ℕ) → has log (Edge r k s l) ≡ false → new ≡ put (after_call plan log r k) (Edge r k s l) → handed ≡ pair_count log → len ≡ length (ends_in log (cluster r k)) → handed + len ≡ pair_count new
+handed-after_edge plan log new r k s l handed len none is h e =
+    let same = kept-call (end_of (cluster r k)) (λ _ _. refl) (λ _ _ _. refl) (λ _. refl) (λ _ _ _. refl) plan log r k in
+    rw is (omega (arith, handed-edge (after_call plan log r k) r k s l (has-call_edge r k s l plan log r k ∙ none), handed-call plan log r k, ap length same))

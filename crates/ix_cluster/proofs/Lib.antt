@@ -1,0 +1,10 @@
+pub mod Beginning
+pub mod Calls
+pub mod Counts
+pub mod FactLemmas
+pub mod Handing
+pub mod ListLemmas
+pub mod Listing
+pub mod Members
+pub mod SmallBanks
+pub mod Soundness

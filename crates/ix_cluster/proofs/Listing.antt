@@ -1,0 +1,136 @@
+-- the edges and ends of a log, as facts are recorded
+use Rattle.std.proofs.Common.{◌≡◌, ℕ, Bool, true, false, cond, List, [], ◌∷◌, ◌++◌, Option, Some, None, refl, sym, ap, ◌∙◌, arith, ◌⊎◌, inl, inr}
+use Rattle.std.specs.List.{filter_map, cons_option}
+use Rattle.std.specs.declared.vec.Vec.{Vec}
+use Rattle.std.proofs.lemmas.List.{append-nil}
+use Rattle.std.proofs.lemmas.List.Elements.{filter_map-append}
+use Rattle.indexmap.specs.IndexMap.{IndexMap}
+use Rattle.ix_model.specs.Parts.{Parts}
+use Rattle.ix_cluster.specs.declared.cluster.Cluster.{Cluster}
+use Rattle.ix_cluster.specs.declared.cluster.Edge.{Edge as Arc}
+use Rattle.ix_model.specs.declared.sub.Sub.{Sub}
+use Rattle.ix_cluster.specs.declared.fact.Fact.{Fact}
+use Rattle.ix_cluster.specs.declared.fact.Fact.TheVariants.{Called, Edge, End, Desc, Part, Claim}
+use Rattle.ix_cluster.specs.Facts.{same_fact, has, put}
+use Rattle.ix_cluster.specs.Firsts.{is_at_end, firsts_of}
+use Rattle.ix_cluster.specs.Lists.{cluster, same_cluster, list_at, PushesAt}
+use Rattle.ix_cluster.specs.Listed.{AreListed}
+use Rattle.ix_cluster.specs.Steps.{empty_sub, edge_of, end_of, edges_in, ends_in, after_first, after_firsts, after_call, after_claim, after_arrival}
+use Rattle.ix_cluster.proofs.Counts.{either, put-old, put-new, has-append}
+
+module _ {X : Type 0} (g : Fact → Option X) where
+  pub kept-put : (log : List Fact) (f : Fact) → g f ≡ None → filter_map g (put log f) ≡ filter_map g log
+  kept-put log f none = by (either (has log f))
+    where
+      by : (has log f ≡ true) ⊎ (has log f ≡ false) → filter_map g (put log f) ≡ filter_map g log
+      by (inl e) = ap (filter_map g) (put-old log f e)
+      by (inr e) = ap (filter_map g) (put-new log f e) ∙ filter_map-append g log (f ∷ []) ∙ ap (λ o. filter_map g log ++ cons_option o []) none ∙ append-nil (filter_map g log)
+
+  pub pushed-put : (log : List Fact) (f : Fact) → has log f ≡ false → filter_map g (put log f) ≡ filter_map g log ++ cons_option (g f) []
+  pushed-put log f e = ap (filter_map g) (put-new log f e) ∙ filter_map-append g log (f ∷ [])
+
+  module _ (called : (r k : ℕ) → g (Called r k) ≡ None) (desc : (s l p : ℕ) → g (Desc s l p) ≡ None) (part : (sub : Sub) → g (Part sub) ≡ None) (claimed : (s l p : ℕ) → g (Claim s l p) ≡ None) where
+    pub kept-first : (plan : Parts) (k : ℕ) (log : List Fact) (s : ℕ) → filter_map g (after_first plan k log s) ≡ filter_map g log
+    kept-first plan k log s = by (is_at_end plan s)
+      where
+        entered : List Fact
+        entered = put log (Desc s k k)
+
+        by : (b : Bool) → filter_map g (cond b (put (put log (Desc s k k)) (Part (empty_sub s k))) (put log (Desc s k k))) ≡ filter_map g log
+        by true = kept-put (put log (Desc s k k)) (Part (empty_sub s k)) (part _) ∙ kept-put log (Desc s k k) (desc s k k)
+        by false = kept-put log (Desc s k k) (desc s k k)
+
+    pub kept-after_firsts : (plan : Parts) (k : ℕ) (firsts : List ℕ) (log : List Fact) → filter_map g (after_firsts plan k firsts log) ≡ filter_map g log
+    kept-after_firsts plan k [] log = refl
+    kept-after_firsts plan k (s ∷ ss) log = kept-after_firsts plan k ss (after_first plan k log s) ∙ kept-first plan k log s
+
+    pub kept-call : (plan : Parts) (log : List Fact) (r k : ℕ) → filter_map g (after_call plan log r k) ≡ filter_map g log
+    kept-call plan log r k = by (has log (Called r k))
+      where
+        by : (b : Bool) → filter_map g (cond b log (after_firsts plan k (firsts_of plan r) (put log (Called r k)))) ≡ filter_map g log
+        by true = refl
+        by false = kept-after_firsts plan k (firsts_of plan r) (put log (Called r k)) ∙ kept-put log (Called r k) (called r k)
+
+    pub kept-claim : (log : List Fact) (s l p : ℕ) → filter_map g (after_claim log s l p) ≡ filter_map g log
+    kept-claim log s l p = by (has log (Desc s l p))
+      where
+        by : (b : Bool) → filter_map g (cond b (put log (Claim s l p)) log) ≡ filter_map g log
+        by true = kept-put log (Claim s l p) (claimed s l p)
+        by false = refl
+
+    pub kept-arrive : (log : List Fact) (sub : Sub) → filter_map g (after_arrival log sub) ≡ filter_map g log
+    kept-arrive log sub = kept-put (put log (Part sub)) (Desc sub.slot sub.left sub.right) (desc _ _ _) ∙ kept-put log (Part sub) (part sub)
+
+module _ {A B S T : Type 0} (log : List Fact) (edges : IndexMap Cluster (Vec Arc A) S) (ends : IndexMap Cluster (Vec ℕ B) T) (is : AreListed log edges ends) where
+  pub AreListed-claim : (new : List Fact) (s l p : ℕ) → new ≡ after_claim log s l p → AreListed new edges ends
+  AreListed-claim new s l p e = record {
+    edges_listed = λ c. rw e (is.edges_listed c ∙ sym (kept-claim (edge_of c) (λ _ _. refl) (λ _ _ _. refl) (λ _. refl) (λ _ _ _. refl) log s l p));
+    ends_listed = λ c. rw e (is.ends_listed c ∙ sym (kept-claim (end_of c) (λ _ _. refl) (λ _ _ _. refl) (λ _. refl) (λ _ _ _. refl) log s l p));
+  }
+
+  pub AreListed-arrive : (new : List Fact) (sub : Sub) → new ≡ after_arrival log sub → AreListed new edges ends
+  AreListed-arrive new sub e = record {
+    edges_listed = λ c. rw e (is.edges_listed c ∙ sym (kept-arrive (edge_of c) (λ _ _. refl) (λ _ _ _. refl) (λ _. refl) (λ _ _ _. refl) log sub));
+    ends_listed = λ c. rw e (is.ends_listed c ∙ sym (kept-arrive (end_of c) (λ _ _. refl) (λ _ _ _. refl) (λ _. refl) (λ _ _ _. refl) log sub));
+  }
+
+  pub AreListed-end : (new : List Fact) (ends' : IndexMap Cluster (Vec ℕ B) T) (r k x : ℕ) → has log (End r k x) ≡ false → new ≡ put log (End r k x) → PushesAt ends (cluster r k) x ends' → AreListed new edges ends'
+  AreListed-end new ends' r k x none e pushes = record {
+    edges_listed = λ c. rw e (is.edges_listed c ∙ sym (kept-put (edge_of c) log (End r k x) refl));
+    ends_listed = λ c. rw e (pushes c ∙ by c (same_cluster (cluster r k) c) refl ∙ sym (pushed-put (end_of c) log (End r k x) none));
+  }
+    where
+      by : (c : Cluster) (b : Bool) → same_cluster (cluster r k) c ≡ b → cond b (list_at ends c ++ x ∷ []) (list_at ends c) ≡ ends_in log c ++ cons_option (cond b (Some x) None) []
+      by c true h = ap (λ l. l ++ x ∷ []) (is.ends_listed c)
+      by c false h = is.ends_listed c ∙ sym (append-nil (ends_in log c))
+
+  pub AreListed-edge : (plan : Parts) (new : List Fact) (edges' : IndexMap Cluster (Vec Arc A) S) (r k s l : ℕ) → has (after_call plan log r k) (Edge r k s l) ≡ false → new ≡ put (after_call plan log r k) (Edge r k s l) → PushesAt edges (cluster r k) (record { slot = s; left = l }) edges' → AreListed new edges' ends
+  AreListed-edge plan new edges' r k s l none e pushes = record {
+    edges_listed = λ c. rw e (pushes c ∙ by c (same_cluster (cluster r k) c) ∙ sym (pushed-put (edge_of c) (after_call plan log r k) (Edge r k s l) none));
+    ends_listed = λ c. rw e (is.ends_listed c ∙ sym (kept-put (end_of c) (after_call plan log r k) (Edge r k s l) refl ∙ kept-call (end_of c) (λ _ _. refl) (λ _ _ _. refl) (λ _. refl) (λ _ _ _. refl) plan log r k));
+  }
+    where
+      before : (c : Cluster) → list_at edges c ≡ edges_in (after_call plan log r k) c
+      before c = is.edges_listed c ∙ sym (kept-call (edge_of c) (λ _ _. refl) (λ _ _ _. refl) (λ _. refl) (λ _ _ _. refl) plan log r k)
+
+      by : (c : Cluster) (b : Bool) → cond b (list_at edges c ++ record { slot = s; left = l } ∷ []) (list_at edges c) ≡ edges_in (after_call plan log r k) c ++ cons_option (cond b (Some (record { slot = s; left = l })) None) []
+      by c true = ap (λ es. es ++ record { slot = s; left = l } ∷ []) (before c)
+      by c false = before c ∙ sym (append-nil (edges_in (after_call plan log r k) c))
+
+-- a log has another fact as before
+pub has-put_other : (log : List Fact) (f g : Fact) → same_fact g f ≡ false → has (put log f) g ≡ has log g
+has-put_other log f g apart = by (either (has log f))
+  where
+    by : (has log f ≡ true) ⊎ (has log f ≡ false) → has (put log f) g ≡ has log g
+    by (inl e) = ap (λ l. has l g) (put-old log f e)
+    by (inr e) = ap (λ l. has l g) (put-new log f e) ∙ grind (arith, has-append log (f ∷ []) g)
+
+-- entering alternatives records no edge
+module _ (r' k' s' l' : ℕ) where
+  has-first_edge : (plan : Parts) (k : ℕ) (log : List Fact) (s : ℕ) → has (after_first plan k log s) (Edge r' k' s' l') ≡ has log (Edge r' k' s' l')
+  has-first_edge plan k log s = by (is_at_end plan s)
+    where
+      by : (b : Bool) → has (cond b (put (put log (Desc s k k)) (Part (empty_sub s k))) (put log (Desc s k k))) (Edge r' k' s' l') ≡ has log (Edge r' k' s' l')
+      by true = has-put_other (put log (Desc s k k)) (Part (empty_sub s k)) (Edge r' k' s' l') refl ∙ has-put_other log (Desc s k k) (Edge r' k' s' l') refl
+      by false = has-put_other log (Desc s k k) (Edge r' k' s' l') refl
+
+  has-enter_edge : (plan : Parts) (k : ℕ) (firsts : List ℕ) (log : List Fact) → has (after_firsts plan k firsts log) (Edge r' k' s' l') ≡ has log (Edge r' k' s' l')
+  has-enter_edge plan k [] log = refl
+  has-enter_edge plan k (s ∷ ss) log = has-enter_edge plan k ss (after_first plan k log s) ∙ has-first_edge plan k log s
+
+  pub has-call_edge : (plan : Parts) (log : List Fact) (r k : ℕ) → has (after_call plan log r k) (Edge r' k' s' l') ≡ has log (Edge r' k' s' l')
+  has-call_edge plan log r k = by (has log (Called r k))
+    where
+      by : (b : Bool) → has (cond b log (after_firsts plan k (firsts_of plan r) (put log (Called r k)))) (Edge r' k' s' l') ≡ has log (Edge r' k' s' l')
+      by true = refl
+      by false = has-enter_edge plan k (firsts_of plan r) (put log (Called r k)) ∙ has-put_other log (Called r k) (Edge r' k' s' l') refl
+
+-- an empty map lists nothing
+pub list_at-empty : {T A S : Type 0} (m : IndexMap Cluster (Vec T A) S) (c : Cluster) → m.entries ≡ [] → list_at m c ≡ []
+list_at-empty m c h = rw h refl
+
+pub AreListed-begin : {A B S T : Type 0} (plan : Parts) (new : List Fact) (edges : IndexMap Cluster (Vec Arc A) S) (ends : IndexMap Cluster (Vec ℕ B) T) → edges.entries ≡ [] → ends.entries ≡ [] → new ≡ after_call plan [] 0 0 → AreListed new edges ends
+AreListed-begin plan new edges ends none none' e = record {
+  edges_listed = λ c. rw e (list_at-empty edges c none ∙ sym (kept-call (edge_of c) (λ _ _. refl) (λ _ _ _. refl) (λ _. refl) (λ _ _ _. refl) plan [] 0 0));
+  ends_listed = λ c. rw e (list_at-empty ends c none' ∙ sym (kept-call (end_of c) (λ _ _. refl) (λ _ _ _. refl) (λ _. refl) (λ _ _ _. refl) plan [] 0 0));
+}

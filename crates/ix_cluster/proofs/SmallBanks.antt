@@ -1,0 +1,22 @@
+-- The bank of `S: S; "a".` at the start, of which the worked examples speak.
+use Rattle.std.proofs.Common.{rules, [], ◌∷◌, refl}
+use Rattle.ix_model.specs.Planned.{IsPlanned}
+use Rattle.ix_model.specs.SlotPlaces.{IsFirst}
+use Rattle.ix_model.specs.Expanded.{line}
+use Rattle.ix_model.specs.ExamplePlans.{cycle, named, call, literal}
+use Rattle.ix_cluster.specs.Banks.{opening_bank}
+use Rattle.ix_cluster.specs.Sound.{IsSound}
+use Rattle.ix_cluster.proofs.Soundness.{sound-begin}
+
+pub cycle_planned : IsPlanned (cycle [])
+cycle_planned = search rules
+
+-- its alternatives begin at the slots 0 and 2
+pub first_begins : IsFirst (cycle []) 0 0
+first_begins = (0, call 0 ∷ [], refl, (named ((call 0 ∷ []) ∷ (literal 0 ∷ []) ∷ []), line (call 0 ∷ []), refl, refl, refl))
+
+pub second_begins : IsFirst (cycle []) 2 0
+second_begins = (1, literal 0 ∷ [], refl, (named ((call 0 ∷ []) ∷ (literal 0 ∷ []) ∷ []), line (literal 0 ∷ []), refl, refl, refl))
+
+pub begins_sound : IsSound (cycle []) 1 0 (opening_bank (cycle []) 1 0)
+begins_sound = sound-begin (cycle []) 1 0 cycle_planned refl (search rules)

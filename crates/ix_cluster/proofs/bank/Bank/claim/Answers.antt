@@ -1,0 +1,17 @@
+use Rattle.std.proofs.Common.{refl, ◌∙◌, sym, subst}
+use Rattle.ix_cluster.proofs.Handing.{handed-claim}
+use Rattle.ix_cluster.proofs.Listing.{AreListed-claim}
+use Rattle.ix_cluster.specs.Sound.{IsSound}
+use Rattle.ix_cluster.proofs.Soundness.{sound-claim}
+use Rattle.ix_cluster.proofs.bank.Bank.claim.Goals as goal
+
+pub invariant_of-self : goal.invariant_of-self
+invariant_of-self c = record {
+  listed = AreListed-claim c.self.inside.log.facts c.self.inside.edges c.self.inside.ends c.self.invariant.listed c.claim.new.self.facts c.args.slot c.args.left c.args.pos c.claim.ensures.facts;
+  counted = rw c.claim.ensures.facts (c.self.invariant.counted ∙ sym (handed-claim c.self.inside.log.facts c.args.slot c.args.left c.args.pos));
+}
+
+pub returns-clause-sound : goal.returns-clause-sound
+returns-clause-sound c plan count m sound =
+    sound-claim plan count m (record { log = c.self.inside.log.facts; handed = c.self.inside.handed }) (record { log = c.claim.new.self.facts; handed = c.self.inside.handed }) c.args.slot c.args.left c.args.pos c.claim.ensures.facts refl c.claim.ensures.bounded
+    (subst (IsSound plan count m) (sym c.self.view_is) sound)

@@ -1,0 +1,12 @@
+pub mod Banks
+pub mod ClosedFacts
+pub mod Facts
+pub mod Firsts
+pub mod Handed
+pub mod Homes
+pub mod Listed
+pub mod Lists
+pub mod Room
+pub mod Seen
+pub mod Sound
+pub mod Steps

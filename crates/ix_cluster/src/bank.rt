@@ -1,0 +1,309 @@
+//! A bank of clusters.
+ghost use Rattle.std.specs.Prelude.{◌≡◌, ℕ, ◌<◌, ◌≤◌, ◌+◌, ◌*◌, ◌^◌, not, length, slice_get, Option, Some, [], OnOk, IfOk, OnErr};
+ghost use Rattle.std.specs.List.{IsDistinct};
+ghost use Rattle.ix_model.specs.declared.grammar.Mark.{Mark};
+ghost use Rattle.ix_model.specs.declared.rules.Sym.TheVariants as sym;
+ghost use Rattle.ix_model.specs.Numbered.{lines_at};
+ghost use Rattle.ix_model.specs.Parts.{Parts};
+ghost use Rattle.ix_model.specs.Slots.{sym_after};
+ghost use Rattle.ix_cluster.specs.declared.fact.Fact.TheVariants as fact;
+ghost use Rattle.ix_cluster.specs.Facts.{same_fact, has, put};
+ghost use Rattle.ix_cluster.specs.Firsts.{firsts_of};
+ghost use Rattle.ix_cluster.specs.ClosedFacts.{IsInClosed};
+ghost use Rattle.ix_cluster.specs.Homes.{home, home_of};
+ghost use Rattle.ix_cluster.specs.Lists.{cluster};
+ghost use Rattle.ix_cluster.specs.Sound.{IsSound};
+ghost use Rattle.ix_cluster.specs.Room.{unclaimed_in};
+ghost use Rattle.ix_cluster.specs.Steps.{after_call, after_first, after_firsts, claim_answer, after_claim, arrival_answer, after_arrival, end_answer, edges_in, ends_in, edge_is_first, edge_answer, after_edge};
+
+use crate::answers::{Arrived, Claimed, Opened};
+use crate::cluster::{Cluster, Edge};
+use crate::fact::Fact;
+use crate::lists::{edges_of, ends_of, push_edge, push_end};
+use crate::log::Log;
+use indexmap::IndexMap;
+use ix_model::{Plan, Sub};
+use smallvec::SmallVec;
+use std::alloc::{AllocError, Global};
+use std::marker::Model;
+
+/// Some clusters, with their return edges and their ends, and a log of facts in the order in which they came. Each fact
+/// stands in the log once.
+#[derive(Drop)]
+pub struct Bank {
+    alloc: Global,
+    log: Log,
+    edges: IndexMap<Cluster, Vec<Edge>>,
+    ends: IndexMap<Cluster, Vec<u32>>,
+    handed: u128,
+}
+
+impl Model for Bank {
+    ghost use Rattle.ix_cluster.specs.Seen.{Bank as Seen};
+    ghost use Rattle.ix_cluster.specs.Handed.{IsKept};
+
+    ghost Value = { Seen };
+
+    ghost view = { λ b. record { log = b.log.facts; handed = b.handed } };
+
+    ghost invariant = { λ b. IsKept b.log.facts b.edges b.ends b.handed };
+}
+
+// Begins the alternative with this first slot at the position.
+fn begin_alternative(log: &mut Log, plan: &Plan, slot: u32, at: u32)
+    requires slot { slot < length plan.now.slots }
+    requires room { 4 ≤ log.old.free }
+    ensures facts { log.new.facts ≡ after_first plan.now at log.old.facts slot }
+    ensures free { log.old.free ≤ log.new.free + 4 }
+{
+    log.add_descriptor(slot, at, at);
+    if plan.sym(slot).is_none() {
+        log.add(Fact::Part(Sub {
+            slot,
+            left: at,
+            pivot: at,
+            right: at,
+        }));
+    }
+}
+
+// Begins each alternative of the rule at the position.
+fn begin_alternatives(log: &mut Log, plan: &Plan, rule: u32, at: u32)
+    requires rule { rule < length plan.now.rules.flats }
+    requires room { 4 * length (lines_at plan.now.rules rule) ≤ log.old.free }
+    ensures facts { log.new.facts ≡ after_firsts plan.now at (firsts_of plan.now rule) log.old.facts }
+    ensures free { log.old.free ≤ log.new.free + 4 * length (lines_at plan.now.rules rule) }
+{
+    // What holds of each plan: a place has one slot.
+    let _ = plan.slot_count();
+    for alt in 0..plan.alt_count(rule) {
+        begin_alternative(log, plan, plan.first(rule, alt), at);
+    }
+}
+
+// Calls the rule at the position, and says whether it was not called before.
+fn call(log: &mut Log, plan: &Plan, rule: u32, at: u32) -> bool
+    requires rule { rule < length plan.now.rules.flats }
+    requires room { 4 * length (lines_at plan.now.rules rule) + 2 ≤ log.old.free }
+    ensures facts { log.new.facts ≡ after_call plan.now log.old.facts rule at }
+    ensures first { result ≡ not (has log.old.facts (fact.Called rule at)) }
+    ensures free { log.old.free ≤ log.new.free + 4 * length (lines_at plan.now.rules rule) + 2 }
+{
+    let first = log.add(Fact::Called { rule, at });
+    if first {
+        begin_alternatives(log, plan, rule, at);
+    }
+    first
+}
+
+// The room that a call of the rule takes.
+fn call_room(plan: &Plan, rule: u32) -> u64
+    requires { rule < length plan.now.rules.flats }
+    ensures room { result ≡ 4 * length (lines_at plan.now.rules rule) + 2 }
+    ensures small { result < 2 ^ 40 }
+{
+    4 * plan.alt_count(rule) as u64 + 2
+}
+
+impl Bank {
+    // A bank with no fact.
+    pub(crate) fn new(alloc: Global) -> Bank
+        ensures log { result.log ≡ [] }
+        ensures handed { result.handed ≡ 0 }
+    {
+        Bank {
+            alloc,
+            log: Log::new(alloc),
+            edges: IndexMap::new(alloc),
+            ends: IndexMap::new(alloc),
+            handed: 0,
+        }
+    }
+
+    // A bank in which the first rule is called at 0, and nothing else.
+    pub(crate) fn begin(alloc: Global, plan: &Plan) -> Result<Bank, AllocError>
+        ensures log { IfOk result (λ bank. bank.log ≡ after_call plan.now [] 0 0) }
+        ensures handed { IfOk result (λ bank. bank.handed ≡ 0) }
+        ensures sound { (count m : ℕ) → home 0 0 count ≡ m → IfOk result (λ bank. IsSound plan.now count m bank) }
+    {
+        // What holds of each plan: it has a first rule.
+        let _ = plan.slot_count();
+        let mut log = Log::new(alloc);
+        log.reserve(call_room(plan, 0))?;
+        call(&mut log, plan, 0, 0);
+        // There are fewer facts than any machine has memory for.
+        let _ = log.len();
+        Ok(Bank {
+            alloc,
+            log,
+            edges: IndexMap::new(alloc),
+            ends: IndexMap::new(alloc),
+            handed: 0,
+        })
+    }
+
+    /// How many facts the log has.
+    pub fn fact_count(&self) -> u64
+        ensures count { result ≡ length self.now.log }
+        // With the claims to come there are fewer facts than any machine has memory for.
+        ensures bounded { result + unclaimed_in self.now.log < 2 ^ 57 }
+        ensures once { IsDistinct same_fact self.now.log }
+    {
+        self.log.len()
+    }
+
+    /// The fact at the place in the log, counted from 0.
+    pub fn fact(&self, n: u64) -> Fact
+        requires { n < length self.now.log }
+        ensures { slice_get self.now.log n ≡ Some result }
+    {
+        self.log.at(n)
+    }
+
+    // The facts in the order in which they came.
+    pub(crate) fn facts(&self) -> &[Fact]
+        ensures { result.now ≡ self.now.log }
+    {
+        self.log.facts()
+    }
+
+    /// How many pairs of an edge and an end the answers have handed out.
+    pub fn handed(&self) -> u128
+        ensures { result ≡ self.now.handed }
+    {
+        self.handed
+    }
+
+    /// Whether the descriptor is claimed.
+    pub fn is_claimed(&self, slot: u32, left: u32, pos: u32) -> bool
+        ensures { result ≡ has self.now.log (fact.Claim slot left pos) }
+    {
+        self.log.holds(Fact::Claim { slot, left, pos })
+    }
+
+    /// How many edges the cluster has, 0 where it is not there.
+    pub fn edge_count(&self, rule: u32, at: u32) -> u64
+        ensures { result ≡ length (edges_in self.now.log (cluster rule at)) }
+    {
+        edges_of(&self.edges, Cluster { rule, at }).len() as u64
+    }
+
+    /// How many ends the cluster has, 0 where it is not there.
+    pub fn end_count(&self, rule: u32, at: u32) -> u64
+        ensures { result ≡ length (ends_in self.now.log (cluster rule at)) }
+    {
+        ends_of(&self.ends, Cluster { rule, at }).len() as u64
+    }
+
+    /// Claims the descriptor, and says whose it is: `Unknown` exactly where the bank has no such descriptor, `Taken`
+    /// exactly where it was claimed before.
+    pub fn claim(&mut self, slot: u32, left: u32, pos: u32) -> Claimed
+        ensures answer { result ≡ claim_answer self.old.log slot left pos }
+        ensures log { self.new.log ≡ after_claim self.old.log slot left pos }
+        ensures handed { self.new.handed ≡ self.old.handed }
+        ensures sound { (plan : Parts) (count m : ℕ) → IsSound plan count m self.old → IsSound plan count m self.new }
+    {
+        self.log.claim(slot, left, pos)
+    }
+
+    /// Records the subtree and its descriptor, and says whether the descriptor was new.
+    ///
+    /// An error is want of memory, and the bank is as before.
+    pub fn arrive(&mut self, sub: Sub) -> Result<Arrived, AllocError>
+        ensures answer { IfOk result (λ answer. answer ≡ arrival_answer self.old.log sub) }
+        ensures log { OnOk result (self.new.log ≡ after_arrival self.old.log sub) }
+        ensures handed { self.new.handed ≡ self.old.handed }
+        ensures err { OnErr result (self.new ≡ self.old) }
+        // What is recorded is a fact of the closure, and this bank is its home.
+        ensures sound { (plan : Parts) (count m : ℕ) → IsSound plan count m self.old → IsInClosed plan (fact.Part sub) → home_of plan count (fact.Part sub) ≡ m → IsSound plan count m self.new }
+    {
+        self.log.reserve(4)?;
+        self.log.add(Fact::Part(sub));
+        if self.log.add_descriptor(sub.slot, sub.left, sub.right) {
+            Ok(Arrived::Fresh)
+        } else {
+            Ok(Arrived::Known)
+        }
+    }
+
+    /// Records the end of the cluster, and answers the cluster's edges in the order of the log. Where the end was there,
+    /// nothing changes and the list is empty.
+    ///
+    /// An error is want of memory, and the bank is as before.
+    pub fn add_end(
+        &mut self,
+        rule: u32,
+        at: u32,
+        end: u32,
+    ) -> Result<SmallVec<Edge, 4, Global>, AllocError>
+        ensures answer { IfOk result (λ edges. edges.items ≡ end_answer self.old.log rule at end) }
+        ensures log { OnOk result (self.new.log ≡ put self.old.log (fact.End rule at end)) }
+        ensures handed { IfOk result (λ edges. self.new.handed ≡ self.old.handed + length edges.items) }
+        ensures err { OnErr result (self.new ≡ self.old) }
+        // What is recorded is a fact of the closure, and this bank is its home.
+        ensures sound { (plan : Parts) (count m : ℕ) → IsSound plan count m self.old → IsInClosed plan (fact.End rule at end) → home_of plan count (fact.End rule at end) ≡ m → IsSound plan count m self.new }
+    {
+        if self.log.holds(Fact::End { rule, at, end }) {
+            return Ok(SmallVec::new(self.alloc));
+        }
+        let cluster = Cluster { rule, at };
+        self.log.reserve(2)?;
+        let edges = SmallVec::from_slice(self.alloc, edges_of(&self.edges, cluster))?;
+        push_end(&mut self.ends, self.alloc, cluster, end)?;
+        self.log.add(Fact::End { rule, at, end });
+        self.handed += edges.len() as u128;
+        Ok(edges)
+    }
+
+    /// Records the return edge of the cluster, and answers whether the cluster was not called before, and the cluster's
+    /// ends in the order of the log. A cluster that was not called is called first, and the rule's alternatives begin.
+    /// Where the edge was there, nothing changes, the cluster is not new, and there are no ends.
+    ///
+    /// An error is want of memory, and the bank is as before.
+    pub fn add_edge(
+        &mut self,
+        plan: &Plan,
+        rule: u32,
+        at: u32,
+        slot: u32,
+        left: u32,
+    ) -> Result<Opened, AllocError>
+        requires slot { slot < length plan.now.slots }
+        // The symbol after the slot's dot is this rule.
+        requires symbol { (mark : Option Mark) × (sym_after plan.now slot ≡ Some (sym.Rule rule mark)) }
+        ensures first { IfOk result (λ opened. opened.first ≡ edge_is_first self.old.log rule at slot left) }
+        ensures ends { IfOk result (λ opened. opened.ends.items ≡ edge_answer self.old.log rule at slot left) }
+        ensures log { OnOk result (self.new.log ≡ after_edge plan.now self.old.log rule at slot left) }
+        ensures handed { IfOk result (λ opened. self.new.handed ≡ self.old.handed + length opened.ends.items) }
+        ensures err { OnErr result (self.new ≡ self.old) }
+        // What is recorded is a fact of the closure, and this bank is its home.
+        ensures sound { (count m : ℕ) → IsSound plan.now count m self.old → IsInClosed plan.now (fact.Edge rule at slot left) → home_of plan.now count (fact.Edge rule at slot left) ≡ m → IsSound plan.now count m self.new }
+    {
+        if self.log.holds(Fact::Edge {
+            rule,
+            at,
+            slot,
+            left,
+        }) {
+            return Ok(Opened {
+                first: false,
+                ends: SmallVec::new(self.alloc),
+            });
+        }
+        // What holds of each plan: the rule that a symbol names is there.
+        let _ = plan.slot_count();
+        let cluster = Cluster { rule, at };
+        self.log.reserve(call_room(plan, rule) + 2)?;
+        let ends = SmallVec::from_slice(self.alloc, ends_of(&self.ends, cluster))?;
+        push_edge(&mut self.edges, self.alloc, cluster, Edge { slot, left })?;
+        let first = call(&mut self.log, plan, rule, at);
+        self.log.add(Fact::Edge {
+            rule,
+            at,
+            slot,
+            left,
+        });
+        self.handed += ends.len() as u128;
+        Ok(Opened { first, ends })
+    }
+}

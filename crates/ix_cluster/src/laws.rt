@@ -1,0 +1,142 @@
+//! Worked examples of the definitions. Each function's contract is the example; the bodies are empty.
+ghost use Rattle.std.specs.Prelude.{◌≡◌, ◌≢◌, ℕ, [], ◌∷◌, true, false, codes, Some, None, Contains};
+ghost use Rattle.std.specs.List.{count_by, filter_map, fold};
+ghost use Rattle.ix_model.specs.ExamplePlans.{cycle, nothing};
+ghost use Rattle.ix_cluster.specs.declared.answers.Arrived.TheVariants as arrived;
+ghost use Rattle.ix_cluster.specs.declared.answers.Claimed.TheVariants as claimed;
+ghost use Rattle.ix_cluster.specs.declared.fact.Fact.TheVariants.{Called, Edge, End, Desc, Part, Claim};
+ghost use Rattle.ix_cluster.specs.Banks.{opening, opening_bank, facts_of, later_of, is_descriptor, sub_of};
+ghost use Rattle.ix_cluster.specs.ClosedFacts.{IsInClosed};
+ghost use Rattle.ix_cluster.specs.Facts.{has, put, same_fact};
+ghost use Rattle.ix_cluster.specs.Firsts.{first_slot, firsts_of, is_at_end};
+ghost use Rattle.ix_cluster.specs.Handed.{meets, pair_count};
+ghost use Rattle.ix_cluster.specs.Homes.{home, home_of};
+ghost use Rattle.ix_cluster.specs.Lists.{cluster, same_cluster};
+ghost use Rattle.ix_cluster.specs.Room.{is_unclaimed, unclaimed_in, HasRoom};
+ghost use Rattle.ix_cluster.specs.Sound.{AreTrue, HasCompanions, IsSound, AreSound};
+ghost use Rattle.ix_cluster.specs.Steps.{empty_sub, claim_answer, after_claim, arrival_answer, after_arrival, edges_in, ends_in, end_answer, after_call, after_edge, edge_is_first, edge_answer};
+
+/// A fact that is there is not recorded again, and another one goes behind it.
+pub fn fact_is_recorded_once()
+    ensures again { put (Called 0 0 ∷ []) (Called 0 0) ≡ Called 0 0 ∷ [] }
+    ensures other { put (Called 0 0 ∷ []) (Called 0 1) ≡ Called 0 0 ∷ Called 0 1 ∷ [] }
+    ensures there { has (Called 0 0 ∷ End 0 0 1 ∷ []) (End 0 0 1) ≡ true }
+    // A descriptor is no claim of it.
+    ensures apart { has (Desc 0 0 0 ∷ []) (Claim 0 0 0) ≡ false }
+    ensures subtrees { same_fact (Part (empty_sub 0 1)) (Part (empty_sub 0 2)) ≡ false }
+{}
+
+/// The alternatives of `S: S; "a".` begin at the slots 0 and 2, and neither is empty.
+pub fn alternatives_begin_at_their_first_slots()
+    ensures second { first_slot (cycle []) 0 1 ≡ 2 }
+    ensures firsts { firsts_of (cycle []) 0 ≡ 0 ∷ 2 ∷ [] }
+    ensures other { firsts_of (cycle []) 0 ≢ 0 ∷ 1 ∷ [] }
+    ensures end { is_at_end (cycle []) 3 ≡ true }
+    ensures before { is_at_end (cycle []) 2 ≡ false }
+{}
+
+/// Clusters go round the banks, and a descriptor goes by its rule and its left end.
+pub fn facts_have_homes()
+    ensures cluster { home 2 3 4 ≡ 1 }
+    ensures descriptor { home_of (cycle []) 4 (Desc 1 2 3) ≡ 2 }
+    ensures claim { home_of (cycle []) 4 (Claim 1 2 3) ≡ 2 }
+    ensures other { home_of (cycle []) 4 (Desc 1 2 3) ≢ home 0 3 4 }
+    ensures subtree { home_of (cycle []) 4 (Part (record { slot = 1; left = 5; pivot = 6; right = 7 })) ≡ 1 }
+{}
+
+/// A claim is of a descriptor that is there, and is recorded once.
+pub fn descriptor_is_claimed_once()
+    ensures unknown { claim_answer (Desc 0 0 1 ∷ []) 0 0 0 ≡ claimed.Unknown }
+    ensures mine { claim_answer (Desc 0 0 0 ∷ []) 0 0 0 ≡ claimed.Mine }
+    ensures taken { claim_answer (Desc 0 0 0 ∷ Claim 0 0 0 ∷ []) 0 0 0 ≡ claimed.Taken }
+    ensures recorded { after_claim (Desc 0 0 0 ∷ []) 0 0 0 ≡ Desc 0 0 0 ∷ Claim 0 0 0 ∷ [] }
+    ensures none { after_claim [] 0 0 0 ≡ [] }
+{}
+
+/// A subtree comes with its descriptor, which may be there already.
+pub fn subtree_brings_its_descriptor()
+    ensures fresh { arrival_answer [] (empty_sub 0 0) ≡ arrived.Fresh }
+    ensures both { after_arrival [] (empty_sub 0 0) ≡ Part (empty_sub 0 0) ∷ Desc 0 0 0 ∷ [] }
+    ensures known { arrival_answer (Desc 0 0 0 ∷ []) (empty_sub 0 0) ≡ arrived.Known }
+    ensures one { after_arrival (Desc 0 0 0 ∷ []) (empty_sub 0 0) ≡ Desc 0 0 0 ∷ Part (empty_sub 0 0) ∷ [] }
+{}
+
+/// A new end meets the edges of its own cluster in their order; the same end meets none again.
+pub fn end_meets_edges_once()
+    ensures edges { end_answer (Edge 0 0 2 0 ∷ Edge 0 1 4 1 ∷ Edge 0 0 3 0 ∷ []) 0 0 1 ≡ record { slot = 2; left = 0 } ∷ record { slot = 3; left = 0 } ∷ [] }
+    ensures again { end_answer (Edge 0 0 2 0 ∷ End 0 0 1 ∷ []) 0 0 1 ≡ [] }
+    ensures other { edges_in (Edge 0 1 4 1 ∷ []) (cluster 0 0) ≡ [] }
+{}
+
+/// A new edge meets the ends of its own cluster in their order; the same edge meets none again.
+pub fn edge_meets_ends_once()
+    ensures ends { edge_answer (End 0 0 2 ∷ End 0 1 4 ∷ End 0 0 3 ∷ []) 0 0 5 0 ≡ 2 ∷ 3 ∷ [] }
+    ensures again { edge_answer (End 0 0 2 ∷ Edge 0 0 5 0 ∷ []) 0 0 5 0 ≡ [] }
+    ensures other { ends_in (End 0 1 4 ∷ []) (cluster 0 0) ≡ [] }
+{}
+
+/// The first edge of a cluster calls it: its alternatives begin, and then the edge is recorded.
+pub fn first_edge_calls_its_cluster()
+    ensures first { edge_is_first [] 0 0 0 0 ≡ true }
+    ensures called { after_edge (cycle []) [] 0 0 0 0 ≡ Called 0 0 ∷ Desc 0 0 0 ∷ Desc 2 0 0 ∷ Edge 0 0 0 0 ∷ [] }
+    ensures second { edge_is_first (Called 0 0 ∷ []) 0 0 0 0 ≡ false }
+    ensures alone { after_edge (cycle []) (Called 0 0 ∷ []) 0 0 0 0 ≡ Called 0 0 ∷ Edge 0 0 0 0 ∷ [] }
+    // An empty alternative has its subtree.
+    ensures empty { after_call (nothing []) [] 0 3 ≡ Called 0 3 ∷ Desc 0 3 3 ∷ Part (empty_sub 0 3) ∷ [] }
+{}
+
+/// An edge and an end of one cluster are a pair, whichever comes first, and those of two clusters are none.
+pub fn pairs_are_of_one_cluster()
+    ensures pair { meets (End 0 0 1) (Edge 0 0 2 0) ≡ true }
+    ensures none { meets (End 0 0 1) (Edge 0 1 2 0) ≡ false }
+    ensures count { pair_count (Edge 0 0 2 0 ∷ End 0 0 1 ∷ Edge 0 0 3 0 ∷ End 0 1 1 ∷ End 0 0 4 ∷ []) ≡ 4 }
+    ensures clusters { same_cluster (cluster 0 1) (cluster 1 0) ≡ false }
+{}
+
+/// A descriptor waits until its own claim is there.
+pub fn descriptor_waits_for_its_claim()
+    ensures waits { is_unclaimed (Claim 2 0 0 ∷ []) (Desc 0 0 0) ≡ true }
+    ensures claimed { is_unclaimed (Claim 2 0 0 ∷ []) (Desc 2 0 0) ≡ false }
+    ensures count { unclaimed_in (Desc 0 0 0 ∷ Desc 2 0 0 ∷ Claim 2 0 0 ∷ []) ≡ 1 }
+    ensures room { HasRoom (Desc 0 0 0 ∷ []) 3 1 2 }
+    ensures no_room { ¬ (HasRoom (Desc 0 0 0 ∷ []) 2 1 2) }
+{}
+
+/// Of two banks the first begins with the call of the first rule, and the second is empty.
+pub fn first_bank_begins()
+    ensures opening { opening (cycle []) 2 ≡ record { log = Called 0 0 ∷ Desc 0 0 0 ∷ Desc 2 0 0 ∷ []; handed = 0 } ∷ record { log = []; handed = 0 } ∷ [] }
+    ensures other { opening_bank (cycle []) 2 1 ≢ opening_bank (cycle []) 2 0 }
+{}
+
+/// What several banks have is told bank by bank.
+pub fn banks_are_read_in_order()
+    ensures facts { facts_of (record { log = Desc 1 0 3 ∷ []; handed = 0 } ∷ record { log = Part (empty_sub 0 1) ∷ Desc 0 1 1 ∷ []; handed = 0 } ∷ []) ≡ Desc 1 0 3 ∷ Part (empty_sub 0 1) ∷ Desc 0 1 1 ∷ [] }
+    ensures furthest { fold later_of 0 (Desc 1 0 3 ∷ Claim 1 0 4 ∷ Desc 0 1 1 ∷ []) ≡ 3 }
+    ensures descriptors { count_by is_descriptor (Desc 1 0 3 ∷ Claim 1 0 3 ∷ Desc 0 1 1 ∷ []) ≡ 2 }
+    ensures subtrees { filter_map sub_of (Desc 1 0 3 ∷ Part (empty_sub 0 1) ∷ []) ≡ empty_sub 0 1 ∷ [] }
+{}
+
+/// The first rule is called at the start and not behind the text, and a claim is in the closure with its descriptor.
+pub fn closed_facts_are_of_the_closure()
+    ensures called { IsInClosed (cycle []) (Called 0 0) }
+    ensures claim { IsInClosed (cycle []) (Claim 0 0 0) }
+    ensures outside { ¬ (IsInClosed (cycle []) (Called 0 1)) }
+{}
+
+/// A claim before its descriptor is not sound, and neither is a subtree without its descriptor.
+pub fn facts_come_in_order()
+    ensures true_facts { AreTrue (cycle []) (Called 0 0 ∷ Desc 0 0 0 ∷ Desc 2 0 0 ∷ []) }
+    ensures too_early { ¬ (AreTrue (cycle []) (Called 0 0 ∷ Claim 0 0 0 ∷ Desc 0 0 0 ∷ [])) }
+    ensures companions { HasCompanions (cycle []) (Called 0 0 ∷ Desc 0 0 0 ∷ Desc 2 0 0 ∷ []) }
+    ensures alone { ¬ (HasCompanions (cycle []) (Called 0 0 ∷ Desc 0 0 0 ∷ [])) }
+    ensures no_descriptor { ¬ (HasCompanions (cycle []) (Part (empty_sub 0 0) ∷ [])) }
+{}
+
+/// The banks of a plan begin sound. A bank without the call of the first rule is not sound where it is its home.
+pub fn banks_begin_sound()
+    ensures one { IsSound (cycle []) 1 0 (opening_bank (cycle []) 1 0) }
+    ensures all { AreSound (cycle []) (opening (cycle []) 1) }
+    ensures empty { ¬ (IsSound (cycle []) 1 0 (record { log = []; handed = 0 })) }
+    ensures away { ¬ (IsSound (cycle []) 2 1 (opening_bank (cycle []) 2 0)) }
+    ensures none { ¬ (AreSound (cycle []) []) }
+{}

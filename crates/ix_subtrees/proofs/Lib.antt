@@ -1,0 +1,16 @@
+pub mod EntryOrder
+pub mod Found
+pub mod Gathering
+pub mod LastSlots
+pub mod Lists
+pub mod Made
+pub mod Meaning
+pub mod Placed
+pub mod Points
+pub mod Rising
+pub mod Roots
+pub mod SmallEntries
+pub mod SmallSets
+pub mod Visits
+pub mod Walked
+pub mod WrittenUses

@@ -1,0 +1,9 @@
+use Rattle.std.proofs.Common.{sym, subst, [], ◌∷◌}
+use Rattle.ix_model.specs.Parts.{Parts}
+use Rattle.ix_model.specs.Useful.{sub_at}
+use Rattle.ix_subtrees.specs.UsefulSubs.{AreParts}
+use Rattle.ix_subtrees.proofs.SmallSets.{parts_alternatives}
+use Rattle.ix_subtrees.proofs.tests.both_alternatives_are_listed.Goals as goal
+
+pub useful-requires : goal.useful-requires
+useful-requires g c = subst (λ (plan : Parts). AreParts plan (sub_at 3 0 0 1 ∷ sub_at 1 0 0 1 ∷ [])) (sym c.in_ok-plan.ensures) parts_alternatives

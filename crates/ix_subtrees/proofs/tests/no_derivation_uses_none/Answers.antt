@@ -1,0 +1,8 @@
+use Rattle.std.proofs.Common.{sym, subst, []}
+use Rattle.ix_model.specs.Parts.{Parts}
+use Rattle.ix_subtrees.specs.UsefulSubs.{AreParts}
+use Rattle.ix_subtrees.proofs.SmallSets.{parts_b}
+use Rattle.ix_subtrees.proofs.tests.no_derivation_uses_none.Goals as goal
+
+pub useful-requires : goal.useful-requires
+useful-requires g c = subst (λ (plan : Parts). AreParts plan ([])) (sym c.in_ok-plan.ensures) parts_b

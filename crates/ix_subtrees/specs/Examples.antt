@@ -1,0 +1,36 @@
+-- Small plans that the worked examples and the tests speak of.
+use Rattle.std.specs.Prelude.{ℕ, List, [], ◌∷◌, codes, map}
+use Rattle.ix_model.specs.declared.grammar.Mark.TheVariants.{Element}
+use Rattle.ix_model.specs.declared.plan.SlotInfo.{SlotInfo}
+use Rattle.ix_model.specs.declared.rules.Flat.{Flat}
+use Rattle.ix_model.specs.declared.rules.Kind.TheVariants.{Named, Group, List as Repeated}
+use Rattle.ix_model.specs.declared.rules.Line.{Line}
+use Rattle.ix_model.specs.declared.rules.Terminal.TheVariants.{Lit}
+use Rattle.ix_model.specs.Parts.{Parts}
+use Rattle.ix_model.specs.Expanded.{line}
+use Rattle.ix_model.specs.Numbering.{numbering}
+use Rattle.ix_model.specs.ExamplePlans.{call, literal, named}
+
+-- a rule with a name
+abbrev pub flat : List Line → Flat
+flat lines = record { kind = Named; lines = lines }
+
+-- these rules, of which S is the only one with a name, and their slots, with the literal "a"
+abbrev pub parts_of : List Flat → List SlotInfo → List ℕ → Parts
+parts_of flats slots text = record {
+  rules = record { names = codes "S" ∷ []; marks = Element ∷ []; flats = flats; terminals = Lit (codes "a") ∷ []; inserts = [] };
+  slots = slots;
+  text = text;
+}
+
+-- the rules of S: ()+.
+abbrev pub repeated_flats : List Flat
+repeated_flats =
+    named ((call 1 ∷ []) ∷ [])
+    ∷ record { kind = Repeated; lines = map line ((call 2 ∷ []) ∷ (call 1 ∷ call 2 ∷ []) ∷ []) }
+    ∷ record { kind = Group; lines = map line ([] ∷ []) }
+    ∷ []
+
+-- of S: ()+. on the empty text
+abbrev pub repeated_nothing : Parts
+repeated_nothing = parts_of repeated_flats (numbering repeated_flats) []

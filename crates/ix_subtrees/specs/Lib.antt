@@ -1,0 +1,11 @@
+pub mod Entries
+pub mod EntryCodes
+pub mod Examples
+pub mod Gathered
+pub mod Laws
+pub mod Nodes
+pub mod Places
+pub mod Sets
+pub mod Subs
+pub mod UsefulSubs
+pub mod Walks
