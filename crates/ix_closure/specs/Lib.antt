@@ -1,0 +1,9 @@
+pub mod Balance
+pub mod Closure
+pub mod Due
+pub mod Events
+pub mod Follows
+pub mod Quantity
+pub mod Runs
+pub mod Seen
+pub mod Tidy

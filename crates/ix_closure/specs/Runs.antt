@@ -1,0 +1,15 @@
+-- Steps in any order. It is this project's own.
+use Rattle.std.specs.Prelude.{◌≡◌, ℕ, List, [], ◌∷◌, ◌++◌}
+use Rattle.ix_model.specs.Parts.{Parts}
+use Rattle.ix_closure.specs.Events.{Event}
+use Rattle.ix_closure.specs.Seen.{State}
+
+module _ (plan : Parts) (first : State) where
+  -- from the first state the steps that the list chooses, each among those that are then owed, lead to the last state
+  pub data Run : List ℕ → State → Type 0 where
+    rests : Run [] first
+    goes_on : (choices : List ℕ) (n : ℕ) (before after : State) → Run choices before → Event plan before n after → Run (choices ++ n ∷ []) after
+
+-- nothing is owed
+abbrev pub IsQuiet : State → Type 0
+IsQuiet state = state.owed ≡ []

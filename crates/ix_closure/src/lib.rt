@@ -1,0 +1,6 @@
+//! The core of the parser: owed steps over banks of clusters, done in any order until the closure is reached.
+#![tactic(auto)]
+
+mod owed;
+
+pub use owed::Owed;
