@@ -1,0 +1,5 @@
+pub mod BankSteps
+pub mod Causes
+pub mod Members
+pub mod Recording
+pub mod Sets

@@ -1,0 +1,32 @@
+-- A list with one element changed.
+use Rattle.std.proofs.Common.{◌≡◌, ℕ, zero, suc, List, [], ◌∷◌, length, Some, slice_get, slice_set, refl, sym, ap, ◌∙◌, ◌⊎◌, inl, inr, arith}
+
+module _ {X : Type 0} where
+  pub length_set : (xs : List X) (i : ℕ) (y : X) → length (slice_set xs i y) ≡ length xs
+  length_set [] zero y = refl
+  length_set [] (suc i) y = refl
+  length_set (x ∷ xs) zero y = refl
+  length_set (x ∷ xs) (suc i) y = ap suc (length_set xs i y)
+
+  pub set_there : (xs : List X) (i : ℕ) (x y : X) → slice_get xs i ≡ Some x → slice_get (slice_set xs i y) i ≡ Some y
+  set_there [] i x y e = absurd (cc)
+  set_there (z ∷ zs) zero x y e = refl
+  set_there (z ∷ zs) (suc i) x y e = set_there zs i x y e
+
+  pub set_other : (xs : List X) (i j : ℕ) (y z : X) → (j ≡ i → ⊥) → slice_get xs j ≡ Some z → slice_get (slice_set xs i y) j ≡ Some z
+  set_other [] i j y z n e = absurd (cc)
+  set_other (x ∷ xs) zero zero y z n e = absurd (n refl)
+  set_other (x ∷ xs) zero (suc j) y z n e = e
+  set_other (x ∷ xs) (suc i) zero y z n e = e
+  set_other (x ∷ xs) (suc i) (suc j) y z n e = set_other xs i j y z (λ h. n (ap suc h)) e
+
+  pub set_from : (xs : List X) (i j : ℕ) (y z : X) → slice_get (slice_set xs i y) j ≡ Some z → ((j ≡ i) × (y ≡ z)) ⊎ ((j ≡ i → ⊥) × (slice_get xs j ≡ Some z))
+  set_from [] zero j y z e = absurd (cc)
+  set_from [] (suc i) j y z e = absurd (cc)
+  set_from (x ∷ xs) zero zero y z e = inl (refl, cc)
+  set_from (x ∷ xs) zero (suc j) y z e = inr ((λ h. omega (arith, h)), e)
+  set_from (x ∷ xs) (suc i) zero y z e = inr ((λ h. omega (arith, h)), e)
+  set_from (x ∷ xs) (suc i) (suc j) y z e = elim (set_from xs i j y z e) [
+      inl h ↦ inl (ap suc h.0, h.1)
+    | inr h ↦ inr ((λ w. h.0 (omega (arith, w))), h.1)
+    ]
