@@ -3,3 +3,4 @@ pub mod Causes
 pub mod Members
 pub mod Recording
 pub mod Sets
+pub mod Stepping

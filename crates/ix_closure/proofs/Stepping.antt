@@ -1,0 +1,65 @@
+-- What an event does to the banks.
+use Rattle.std.proofs.Common.{◌≡◌, ℕ, Bool, true, false, cond, List, Contains, length, Some, slice_get, slice_set, refl, sym, ap, ◌∙◌, subst}
+use Rattle.ix_model.specs.Parts.{Parts}
+use Rattle.ix_model.specs.Planned.{IsPlanned}
+use Rattle.ix_cluster.specs.declared.fact.Fact.{Fact}
+use Rattle.ix_cluster.specs.declared.fact.Fact.TheVariants as fact
+use Rattle.ix_cluster.specs.ClosedFacts.{IsInClosed}
+use Rattle.ix_cluster.specs.Facts.{has, put}
+use Rattle.ix_cluster.specs.Homes.{home_of}
+use Rattle.ix_cluster.specs.Seen.{Bank}
+use Rattle.ix_cluster.specs.Sound.{IsSound, AreSound}
+use Rattle.ix_cluster.specs.Steps.{after_call}
+use Rattle.ix_cluster.proofs.Calls.{call-keeps}
+use Rattle.ix_cluster.proofs.Members.{put-keeps}
+use Rattle.ix_closure.specs.declared.owed.Owed.{Owed}
+use Rattle.ix_closure.specs.declared.owed.Owed.TheVariants.{Claim, Edge, End, Arrive}
+use Rattle.ix_closure.specs.Balance.{IsBalanced}
+use Rattle.ix_closure.specs.Due.{IsRecorded, FollowsIn}
+use Rattle.ix_closure.specs.Events.{Event, log_after, bank_after, home_for}
+use Rattle.ix_closure.specs.Follows.{fact_of}
+use Rattle.ix_closure.specs.Seen.{State}
+use Rattle.ix_closure.proofs.BankSteps.{bank_sound}
+use Rattle.ix_closure.proofs.Causes.{due_closed}
+use Rattle.ix_closure.proofs.Members.{nth_has}
+use Rattle.ix_closure.proofs.Recording.{Moves, recorded_closed, set_sound, moves}
+
+-- a step forgets no fact
+pub log_keeps : (plan : Parts) (log : List Fact) (o : Owed) (f : Fact) → Contains log f → Contains (log_after plan log o) f
+log_keeps plan log (Claim s l p) f h = by (has log (fact.Desc s l p))
+  where
+    by : (b : Bool) → Contains (cond b (put log (fact.Claim s l p)) log) f
+    by true = put-keeps log (fact.Claim s l p) f h
+    by false = h
+log_keeps plan log (Edge r k s l) f h = by (has log (fact.Edge r k s l))
+  where
+    by : (b : Bool) → Contains (cond b log (put (after_call plan log r k) (fact.Edge r k s l))) f
+    by true = h
+    by false = put-keeps (after_call plan log r k) (fact.Edge r k s l) f (call-keeps plan log r k f h)
+log_keeps plan log (End r k e) f h = put-keeps log (fact.End r k e) f h
+log_keeps plan log (Arrive sub) f h = put-keeps (put log (fact.Part sub)) (fact.Desc sub.slot sub.left sub.right) f (put-keeps log (fact.Part sub) f h)
+
+module _ (plan : Parts) (planned : IsPlanned plan) (old new : State) (n : ℕ) (balanced : IsBalanced plan old) (event : Event plan old n new) where
+  -- the step is due, and what it is to record is in the closure
+  pub step_due : FollowsIn plan old.banks event.step
+  step_due = balanced.caused event.step (nth_has old.owed n event.step event.taken)
+
+  pub step_closed : IsInClosed plan (fact_of event.step)
+  step_closed = due_closed plan (IsRecorded old.banks) (recorded_closed plan old.banks balanced.sound) event.step step_due
+
+  -- the bank that does it stays sound
+  new_sound : IsSound plan (length old.banks) (home_for plan (length old.banks) event.step) (bank_after plan event.bank event.step)
+  new_sound =
+      bank_sound plan planned (length old.banks) (home_for plan (length old.banks) event.step) event.bank event.step step_closed refl event.bounded
+      (balanced.sound.each (home_for plan (length old.banks) event.step) event.bank event.there)
+
+  -- and so do all
+  pub event_sound : AreSound plan new.banks
+  event_sound =
+      subst (AreSound plan) (sym event.done)
+      (set_sound plan old.banks balanced.sound (home_for plan (length old.banks) event.step) event.bank (bank_after plan event.bank event.step) event.there new_sound (log_keeps plan event.bank.log event.step))
+
+  pub event_moves : Moves (λ f. home_of plan (length old.banks) f ≡ home_for plan (length old.banks) event.step) (IsRecorded old.banks) (IsRecorded new.banks) event.bank.log (log_after plan event.bank.log event.step)
+  event_moves =
+      subst (λ banks. Moves (λ f. home_of plan (length old.banks) f ≡ home_for plan (length old.banks) event.step) (IsRecorded old.banks) (IsRecorded banks) event.bank.log (log_after plan event.bank.log event.step)) (sym event.done)
+      (moves plan old.banks balanced.sound (home_for plan (length old.banks) event.step) event.bank (bank_after plan event.bank event.step) event.there new_sound (log_keeps plan event.bank.log event.step))
