@@ -1,5 +1,6 @@
 pub mod BankSteps
 pub mod Causes
+pub mod Following
 pub mod Members
 pub mod Recording
 pub mod Sets
