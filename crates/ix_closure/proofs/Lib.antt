@@ -1,5 +1,7 @@
 pub mod BankSteps
+pub mod Bringing
 pub mod Causes
+pub mod Clusters
 pub mod Following
 pub mod Members
 pub mod NewCauses
