@@ -1,3 +1,4 @@
+pub mod Balancing
 pub mod BankSteps
 pub mod Bringing
 pub mod Causes
@@ -5,6 +6,8 @@ pub mod Clusters
 pub mod Following
 pub mod Members
 pub mod NewCauses
+pub mod Opening
+pub mod Quiet
 pub mod Recording
 pub mod Sets
 pub mod Stepping
