@@ -1,5 +1,6 @@
 -- What a claimed descriptor brings, by the symbol behind its dot.
-use Rattle.std.proofs.Common.{◌≡◌, ℕ, ◌+◌, ◌<◌, Bool, List, [], ◌∷◌, Contains, length, Option, Some, None, refl, sym, ap, ◌∙◌, subst, ◌⊎◌, inl, inr, arith}
+use Rattle.std.proofs.Common.{◌≡◌, ℕ, ◌+◌, ◌<◌, Bool, List, [], ◌∷◌, Contains, length, Option, Some, None, slice_get, refl, sym, ap, ◌∙◌, subst, ◌⊎◌, inl, inr, arith}
+use Rattle.std.proofs.lemmas.Option.{slice_get-get_or, get_or_from_slice_get}
 use Rattle.ix_model.specs.declared.grammar.Mark.{Mark}
 use Rattle.ix_model.specs.declared.rules.Sym.{Sym}
 use Rattle.ix_model.specs.declared.rules.Sym.TheVariants as sy
@@ -8,6 +9,7 @@ use Rattle.ix_model.specs.declared.rules.Terminal.TheVariants as terminal
 use Rattle.ix_model.specs.Parts.{Parts}
 use Rattle.ix_model.specs.Planned.{IsPlanned}
 use Rattle.ix_model.specs.FlatDerives.{IsTerminal, TerminalMatches}
+use Rattle.ix_model.specs.Numbered.{terminal_at}
 use Rattle.ix_model.specs.Slots.{info_at, sym_after}
 use Rattle.ix_model.specs.SlotPlaces.{HasNext, IsLast}
 use Rattle.ix_model.proofs.SlotReaders.{next_reads, last_reads, reads_next, reads_last}
@@ -80,3 +82,18 @@ module _ (plan : Parts) (planned : IsPlanned plan) (s l p : ℕ) where
   -- a descriptor brings one list of steps
   pub one_follows : (a b : List Owed) → FollowsDesc plan s l p a → FollowsDesc plan s l p b → a ≡ b
   one_follows a b v w = one_by (sym_after plan s) a b (follows_reads a v) (follows_reads b w)
+
+  -- a terminal that stands there, and one that does not, by the number of the terminal
+  pub passes_term : (t : ℕ) (shown : Bool) (after e : ℕ) → s < length plan.slots → sym_after plan s ≡ Some (sy.Term t shown) → t < length plan.rules.terminals → TerminalMatches plan.text (terminal_at plan.rules t) p e → after ≡ s + 1 → FollowsDesc plan s l p (Arrive (sub_of after l p e) ∷ [])
+  passes_term t shown after e h w there m number =
+      passes (sy.Term t shown) after e (reads_next plan planned s after (sy.Term t shown) (h, w, number))
+      (t, shown, terminal_at plan.rules t, refl, slice_get-get_or plan.rules.terminals t (terminal.Lit []) there, m)
+
+  pub stops_term : (t : ℕ) (shown : Bool) → s < length plan.slots → sym_after plan s ≡ Some (sy.Term t shown) → ((e : ℕ) → TerminalMatches plan.text (terminal_at plan.rules t) p e → ⊥) → FollowsDesc plan s l p []
+  stops_term t shown h w none = stops t shown (s + 1) (reads_next plan planned s (s + 1) (sy.Term t shown) (h, w, refl)) never
+    where
+      never : (e : ℕ) → IsTerminal plan (sy.Term t shown) p e → ⊥
+      never e m =
+          let number : m.0 ≡ t = (cc (m.3)) in
+          let same : terminal_at plan.rules t ≡ m.2 = get_or_from_slice_get plan.rules.terminals t m.2 (terminal.Lit []) (ap (slice_get plan.rules.terminals) (sym number) ∙ m.4) in
+          none e (subst (λ (z : Terminal). TerminalMatches plan.text z p e) (sym same) m.5)

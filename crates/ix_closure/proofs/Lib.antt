@@ -2,6 +2,7 @@ pub mod Balancing
 pub mod BankSteps
 pub mod Bringing
 pub mod Causes
+pub mod Claims
 pub mod Clusters
 pub mod Following
 pub mod Members

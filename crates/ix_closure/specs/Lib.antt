@@ -4,6 +4,7 @@ pub mod Due
 pub mod Events
 pub mod Follows
 pub mod Quantity
+pub mod Ready
 pub mod Runs
 pub mod Seen
 pub mod Tidy

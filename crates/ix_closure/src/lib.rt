@@ -1,6 +1,8 @@
 //! The core of the parser: owed steps over banks of clusters, done in any order until the closure is reached.
 #![tactic(auto)]
 
+mod follow;
 mod owed;
+mod steps;
 
 pub use owed::Owed;

@@ -1,0 +1,22 @@
+-- The claims of a rule's first slots, one alternative after the other.
+use Rattle.std.proofs.Common.{◌≡◌, ℕ, ◌+◌, List, [], ◌∷◌, ◌++◌, map, sym, ap, ◌∙◌, arith, append_assoc}
+use Rattle.std.specs.List.{range_with_len}
+use Rattle.std.proofs.lemmas.List.{map-append}
+use Rattle.std.proofs.lemmas.List.FromFn.{map-range_with_len_more}
+use Rattle.ix_model.specs.Parts.{Parts}
+use Rattle.ix_model.specs.Planned.{IsPlanned}
+use Rattle.ix_model.specs.Slots.{IsSlot}
+use Rattle.ix_cluster.specs.Firsts.{first_slot}
+use Rattle.ix_cluster.proofs.Beginning.{first_is_slot}
+use Rattle.ix_closure.specs.declared.owed.Owed.{Owed}
+use Rattle.ix_closure.specs.declared.owed.Owed.TheVariants.{Claim}
+use Rattle.ix_closure.specs.Follows.{claims_at}
+
+module _ (plan : Parts) (planned : IsPlanned plan) where
+  -- the claim of one more alternative
+  pub claims_more : (r a s k : ℕ) (old before after : List Owed) → IsSlot plan s r a 0 → before ≡ old ++ claims_at k (map (first_slot plan r) (range_with_len 0 a)) → after ≡ before ++ Claim s k k ∷ [] → after ≡ old ++ claims_at k (map (first_slot plan r) (range_with_len 0 (a + 1)))
+  claims_more r a s k old before after at e f =
+      let firsts : List ℕ = map (first_slot plan r) (range_with_len 0 a) in
+      let more : map (first_slot plan r) (range_with_len 0 (a + 1)) ≡ firsts ++ s ∷ [] = map-range_with_len_more (first_slot plan r) 0 a a (omega arith) ∙ ap (λ n. firsts ++ n ∷ []) (first_is_slot plan planned r a s at) in
+      f ∙ ap (λ (xs : List Owed). xs ++ Claim s k k ∷ []) e ∙ append_assoc old (claims_at k firsts) (Claim s k k ∷ []) ∙
+      ap (λ (xs : List Owed). old ++ xs) (sym (map-append (λ n. Claim n k k) firsts (s ∷ []))) ∙ ap (λ (xs : List ℕ). old ++ claims_at k xs) (sym more)
