@@ -1,8 +1,11 @@
 pub mod BankSteps
 pub mod Causes
+pub mod FewDescriptors
+pub mod FirstsOnce
 pub mod Members
 pub mod Once
 pub mod Recording
 pub mod Sets
 pub mod Stepping
 pub mod Sublists
+pub mod Weights
