@@ -4,6 +4,7 @@ pub mod FewDescriptors
 pub mod FirstsOnce
 pub mod Members
 pub mod Once
+pub mod Paid
 pub mod Recording
 pub mod Sets
 pub mod Stepping
