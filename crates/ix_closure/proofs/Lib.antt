@@ -1,7 +1,9 @@
 pub mod BankSteps
 pub mod Causes
+pub mod FewChoices
 pub mod FewDescriptors
 pub mod FirstsOnce
+pub mod InClosure
 pub mod Members
 pub mod Once
 pub mod Paid
