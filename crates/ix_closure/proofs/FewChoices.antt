@@ -1,5 +1,5 @@
 -- A list of choices is no longer than twice the descriptors of the closure, and its pairs of an edge and an end.
-use Rattle.std.proofs.Common.{◌≡◌, ℕ, zero, suc, ◌+◌, ◌≤◌, ◌<◌, Bool, true, false, List, [], ◌∷◌, ◌++◌, length, length-append, map, remove, Contains, Some, slice_get, slice_set, refl, sym, ap, ◌∙◌, subst, arith, true≢false}
+use Rattle.std.proofs.Common.{◌≡◌, ℕ, zero, suc, ◌+◌, ◌≤◌, Bool, true, false, List, [], ◌∷◌, length, length-append, remove, Contains, Some, slice_get, slice_set, refl, sym, ap, ◌∙◌, subst, arith, true≢false}
 use Rattle.std.proofs.lemmas.List.{length-map}
 use Rattle.std.proofs.lemmas.List.FromFn.{length-map-range_with_len}
 use Rattle.ix_model.specs.Numbered.{lines_at}
@@ -9,14 +9,13 @@ use Rattle.ix_model.specs.SlotPlaces.{IsFirst}
 use Rattle.ix_model.proofs.SlotReaders.{first_reads}
 use Rattle.ix_cluster.specs.declared.fact.Fact.{Fact}
 use Rattle.ix_cluster.specs.declared.fact.Fact.TheVariants as fact
-use Rattle.ix_cluster.specs.Banks.{opening, is_descriptor}
+use Rattle.ix_cluster.specs.Banks.{opening}
 use Rattle.ix_cluster.specs.Facts.{has}
 use Rattle.ix_cluster.specs.Firsts.{first_slot, firsts_of}
 use Rattle.ix_cluster.specs.Homes.{home}
 use Rattle.ix_cluster.specs.Seen.{Bank}
 use Rattle.ix_cluster.proofs.Beginning.{firsts_are}
 use Rattle.ix_cluster.proofs.Members.{Contains-has, has-Contains}
-use Rattle.ix_closure.specs.declared.owed.Owed.{Owed}
 use Rattle.ix_closure.specs.declared.owed.Owed.TheVariants.{Claim}
 use Rattle.ix_closure.specs.Closure.{IsClosure}
 use Rattle.ix_closure.specs.Events.{Event, bank_after, home_for}
@@ -60,7 +59,7 @@ module _ (plan : Parts) (planned : IsPlanned plan) where
           let called = tidy.first_descs s k k r (recorded_by state.banks m bank (fact.Desc s k k) there d) first in
           let p = recorded_home plan state.banks tidy.balanced.sound (fact.Called r k) called in
           let home_is : home r k (length state.banks) ≡ m = ap (λ (n : ℕ). home n k (length state.banks)) (sym (first_reads plan s r first).1) ∙ (tidy.balanced.sound.each m bank there).at_home (fact.Desc s k k) d in
-          let same : p.0 ≡ bank = cc (p.1, ap (slice_get state.banks) home_is, there) in
+          let same : p.0 ≡ bank = cc (p.1, home_is, there) in
           subst (λ (b : Bank). Contains b.log (fact.Called r k)) same p.2
 
       by : (b : Bool) → has bank.log (fact.Desc s k k) ≡ b → has bank.log (fact.Desc s k k) ≡ false

@@ -1,5 +1,5 @@
 -- The closure has few descriptors: their slots and positions are those of the plan.
-use Rattle.std.proofs.Common.{◌≡◌, ℕ, ◌+◌, ◌*◌, ◌≤◌, ◌<◌, Bool, true, List, length, map, get_or, Contains, count_by, sym, ◌∙◌, subst, arith}
+use Rattle.std.proofs.Common.{◌≡◌, ℕ, ◌+◌, ◌*◌, ◌≤◌, ◌<◌, true, List, length, map, get_or, Contains, count_by, sym, ◌∙◌, subst, arith}
 use Rattle.std.specs.List.{IsDistinct, flat_map, range_with_len}
 use Rattle.std.proofs.lemmas.List.{length-map}
 use Rattle.std.proofs.lemmas.List.Concat.{length-flat_map}
@@ -10,7 +10,7 @@ use Rattle.ix_model.specs.Parts.{Parts}
 use Rattle.ix_model.specs.Planned.{IsPlanned}
 use Rattle.ix_model.proofs.ClosedWithin.{desc_within}
 use Rattle.ix_cluster.specs.declared.fact.Fact.{Fact}
-use Rattle.ix_cluster.specs.declared.fact.Fact.TheVariants.{Called, Edge, End, Desc, Part, Claim}
+use Rattle.ix_cluster.specs.declared.fact.Fact.TheVariants.{Desc}
 use Rattle.ix_cluster.specs.Banks.{is_descriptor}
 use Rattle.ix_cluster.specs.ClosedFacts.{IsInClosed}
 use Rattle.ix_cluster.specs.Facts.{same_fact}
@@ -69,8 +69,4 @@ few_descriptors plan planned facts closed once =
     there (Desc s l p) h e =
         let w = desc_within plan planned s l p (closed (Desc s l p) h) in
         at_slots_have (length plan.text + 1) (length plan.slots) s l p w.0 (omega (arith, w.1, w.2)) (omega (arith, w.2))
-    there (Called r k) h e = absurd (cc e)
-    there (Edge r k s l) h e = absurd (cc e)
-    there (End r k e) h w = absurd (cc w)
-    there (Part sub) h e = absurd (cc e)
-    there (Claim s l p) h e = absurd (cc e)
+    there f h e = absurd (cc e)

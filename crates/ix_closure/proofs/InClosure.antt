@@ -1,9 +1,9 @@
 -- Facts of the closure, each once, weigh no more than the steps that a list of the whole closure can bring.
-use Rattle.std.proofs.Common.{◌≡◌, ℕ, ◌+◌, ◌*◌, ◌≤◌, Bool, true, false, List, [], ◌∷◌, Contains, count_by, refl, arith}
+use Rattle.std.proofs.Common.{◌≡◌, ℕ, ◌+◌, ◌≤◌, true, List, [], ◌∷◌, Contains, refl, sym, ap, ◌∙◌, arith}
 use Rattle.std.specs.List.{IsDistinct}
 use Rattle.ix_model.specs.Parts.{Parts}
 use Rattle.ix_cluster.specs.declared.fact.Fact.{Fact}
-use Rattle.ix_cluster.specs.declared.fact.Fact.TheVariants.{Called, Edge, End, Desc, Part, Claim}
+use Rattle.ix_cluster.specs.declared.fact.Fact.TheVariants.{Desc, Claim}
 use Rattle.ix_cluster.specs.Banks.{is_descriptor, facts_of}
 use Rattle.ix_cluster.specs.ClosedFacts.{IsInClosed}
 use Rattle.ix_cluster.specs.Facts.{same_fact}
@@ -21,31 +21,26 @@ claimed : Fact → Fact
 claimed (Claim s l p) = Desc s l p
 claimed f = f
 
+-- the claim of a descriptor
+claim_for : Fact → Fact
+claim_for (Desc s l p) = Claim s l p
+claim_for f = f
+
+claim_again : (f : Fact) → is_claim f ≡ true → claim_for (claimed f) ≡ f
+unfolding claimed claim_for
+claim_again (Claim s l p) e = refl
+claim_again f e = absurd (cc e)
+
 -- no two claims are of one descriptor
 one_claim : (a b : Fact) → is_claim a ≡ true → is_claim b ≡ true → claimed a ≡ claimed b → a ≡ b
-unfolding claimed
-one_claim (Claim s l p) (Claim s' l' p') e w same = cc same
-one_claim (Claim s l p) (Called _ _) e w same = absurd (cc w)
-one_claim (Claim s l p) (Edge _ _ _ _) e w same = absurd (cc w)
-one_claim (Claim s l p) (End _ _ _) e w same = absurd (cc w)
-one_claim (Claim s l p) (Desc _ _ _) e w same = absurd (cc w)
-one_claim (Claim s l p) (Part _) e w same = absurd (cc w)
-one_claim (Called _ _) b e w same = absurd (cc e)
-one_claim (Edge _ _ _ _) b e w same = absurd (cc e)
-one_claim (End _ _ _) b e w same = absurd (cc e)
-one_claim (Desc _ _ _) b e w same = absurd (cc e)
-one_claim (Part _) b e w same = absurd (cc e)
+one_claim a b e w same = sym (claim_again a e) ∙ ap claim_for same ∙ claim_again b w
 
 module _ (plan : Parts) (all : List Fact) (closure : IsClosure plan all) where
   -- a claim's descriptor is among all
   descriptor_there : (f : Fact) → IsInClosed plan f → is_claim f ≡ true → Contains all (claimed f) × (is_descriptor (claimed f) ≡ true)
   unfolding claimed
   descriptor_there (Claim s l p) h e = (closure.all (Desc s l p) h, refl)
-  descriptor_there (Called _ _) h e = absurd (cc e)
-  descriptor_there (Edge _ _ _ _) h e = absurd (cc e)
-  descriptor_there (End _ _ _) h e = absurd (cc e)
-  descriptor_there (Desc _ _ _) h e = absurd (cc e)
-  descriptor_there (Part _) h e = absurd (cc e)
+  descriptor_there f h e = absurd (cc e)
 
   pub weight_within : (facts : List Fact) → IsDistinct same_fact facts → ((f : Fact) → Contains facts f → IsInClosed plan f) → weight facts ≤ step_bound all
   weight_within facts once closed =

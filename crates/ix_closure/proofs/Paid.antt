@@ -15,10 +15,9 @@ use Rattle.ix_cluster.specs.declared.fact.Fact.TheVariants as fact
 use Rattle.ix_cluster.specs.Banks.{is_descriptor}
 use Rattle.ix_cluster.specs.Facts.{has, put}
 use Rattle.ix_cluster.specs.Firsts.{firsts_of, is_at_end}
-use Rattle.ix_cluster.specs.Handed.{pair_count}
 use Rattle.ix_cluster.specs.Lists.{cluster}
 use Rattle.ix_cluster.specs.Steps.{after_first, after_firsts, after_call, after_arrival, after_edge, arrival_answer, empty_sub, edges_in, ends_in, end_of}
-use Rattle.ix_cluster.proofs.Counts.{put-old, put-new}
+use Rattle.ix_cluster.proofs.Counts.{put-old}
 use Rattle.ix_cluster.proofs.Handing.{handed-put_other, handed-edge, handed-end, handed-call, handed-arrive, claim-none}
 use Rattle.ix_cluster.proofs.Listing.{has-put_other, has-call_edge, kept-call}
 use Rattle.ix_cluster.proofs.Members.{first_has, rest_has}

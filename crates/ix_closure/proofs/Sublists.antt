@@ -64,9 +64,9 @@ without_has f (x ∷ xs) g apart h = by (same_fact f x) refl (either_has x xs g 
 -- where the fact is behind another, it is behind it in the rest
 behind : (f x : Fact) (xs : List Fact) → same_fact f x ≡ false → Contains (x ∷ xs) f → Contains xs f
 behind f x xs apart h = elim (either_has x xs f h) [
-    inl e ↦ absurd (true≢false (sym (same_fact-refl f) ∙ ap (same_fact f) (sym e) ∙ apart))
+  | inl e ↦ absurd (true≢false (sym (same_fact-refl f) ∙ ap (same_fact f) (sym e) ∙ apart))
   | inr r ↦ r
-  ]
+]
 
 -- one less passes, where the fact does
 pub without_tally : (p : Fact → Bool) (f : Fact) (gs : List Fact) → Contains gs f → tally p (without f gs) + cond (p f) 1 0 ≡ tally p gs
