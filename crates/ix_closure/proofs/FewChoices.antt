@@ -24,11 +24,11 @@ use Rattle.ix_closure.specs.Quantity.{step_bound}
 use Rattle.ix_closure.specs.Runs.{Run, rests, goes_on}
 use Rattle.ix_closure.specs.Seen.{State}
 use Rattle.ix_closure.specs.Tidy.{IsTidy}
-use Rattle.ix_closure.proofs.FirstsOnce.{rule_there, firsts_once}
-use Rattle.ix_closure.proofs.InClosure.{weight_in, weight_sound}
+use Rattle.ix_closure.proofs.FirstsOnce.{rule_with_alternatives, firsts_once}
+use Rattle.ix_closure.proofs.InClosure.{weight_sound}
 use Rattle.ix_closure.proofs.Paid.{IsFresh, descriptor_call, step_paid}
 use Rattle.ix_closure.proofs.Recording.{recorded_by, recorded_home}
-use Rattle.ix_closure.proofs.Weights.{weight}
+use Rattle.ix_closure.proofs.Weights.{weight, weight_in}
 
 -- one bank changes the weight of all as its own
 weight_set : (banks : List Bank) (m : ℕ) (bank new : Bank) → slice_get banks m ≡ Some bank → weight_in (slice_set banks m new) + weight bank.log ≡ weight_in banks + weight new.log
@@ -45,7 +45,7 @@ length_removed (y ∷ ys) (suc n) x e = omega (arith, length_removed ys n x e)
 module _ (plan : Parts) (planned : IsPlanned plan) where
   -- what is among the first slots of a rule is one of its alternatives'
   first_of : (r s : ℕ) → Contains (firsts_of plan r) s → IsFirst plan s r
-  first_of r s h = firsts_are plan planned r s (rule_there plan.rules r (omega (arith, h.1, length-map-range_with_len (first_slot plan r) 0 (length (lines_at plan.rules r))))) h
+  first_of r s h = firsts_are plan planned r s (rule_with_alternatives plan.rules r (omega (arith, h.1, length-map-range_with_len (first_slot plan r) 0 (length (lines_at plan.rules r))))) h
 
   -- in a tidy state no bank has begun an alternative of a rule that is not called
   tidy_fresh : (state : State) → IsTidy plan state → (m : ℕ) (bank : Bank) → slice_get state.banks m ≡ Some bank → IsFresh plan bank.log

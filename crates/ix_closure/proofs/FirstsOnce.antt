@@ -18,8 +18,8 @@ use Rattle.ix_cluster.specs.Firsts.{first_slot, firsts_of}
 use Rattle.ix_cluster.proofs.Beginning.{first_is_slot}
 
 -- a rule that has an alternative is there
-pub rule_there : (rules : Rules) (r : ℕ) → 0 < length (lines_at rules r) → r < length rules.flats
-rule_there rules r some = by (slice_get rules.flats r) refl
+pub rule_with_alternatives : (rules : Rules) (r : ℕ) → 0 < length (lines_at rules r) → r < length rules.flats
+rule_with_alternatives rules r some = by (slice_get rules.flats r) refl
   where
     by : (flat : Option Flat) → slice_get rules.flats r ≡ flat → r < length rules.flats
     by (Some flat) e = slice_get_within rules.flats r flat e
@@ -29,7 +29,7 @@ module _ (plan : Parts) (planned : IsPlanned plan) (r : ℕ) where
   -- the first slot of an alternative is the slot with its dot at the beginning
   first_stands : (a : ℕ) → a < length (lines_at plan.rules r) → IsSlot plan (first_slot plan r a) r a 0
   first_stands a h =
-      let found = has_line plan.rules r a (rule_there plan.rules r (omega (arith, h))) h in
+      let found = has_line plan.rules r a (rule_with_alternatives plan.rules r (omega (arith, h))) h in
       let line : IsLine plan r a found.line.syms = (found.flat, found.line, found.flat_at, found.line_at, refl) in
       let at = slot_for plan planned r a 0 found.line.syms line (omega arith) in
       subst (λ (n : ℕ). IsSlot plan n r a 0) (sym (first_is_slot plan planned r a at.0 at.1)) at.1

@@ -1,5 +1,5 @@
 -- Facts of the closure, each once, weigh no more than the steps that a list of the whole closure can bring.
-use Rattle.std.proofs.Common.{◌≡◌, ℕ, ◌+◌, ◌≤◌, true, List, [], ◌∷◌, Contains, refl, sym, ap, ◌∙◌, arith}
+use Rattle.std.proofs.Common.{◌≡◌, ℕ, ◌+◌, ◌≤◌, true, List, Contains, refl, sym, ap, ◌∙◌, arith}
 use Rattle.std.specs.List.{IsDistinct}
 use Rattle.ix_model.specs.Parts.{Parts}
 use Rattle.ix_cluster.specs.declared.fact.Fact.{Fact}
@@ -14,7 +14,7 @@ use Rattle.ix_closure.specs.Quantity.{step_bound}
 use Rattle.ix_closure.proofs.Once.{facts_once}
 use Rattle.ix_closure.proofs.Recording.{recorded_closed}
 use Rattle.ix_closure.proofs.Sublists.{tallied, fewer, fewer_by, fewer_pairs}
-use Rattle.ix_closure.proofs.Weights.{is_claim, weight, weight_append}
+use Rattle.ix_closure.proofs.Weights.{is_claim, weight, weight_in, weight_of_facts}
 
 -- the descriptor that a claim is of
 claimed : Fact → Fact
@@ -53,18 +53,6 @@ module _ (plan : Parts) (all : List Fact) (closure : IsClosure plan all) where
         fewer_by is_claim is_descriptor claimed one_claim facts all once (λ f h e. descriptor_there f (closed f h) e),
         fewer_pairs facts all once (λ f h. closure.all f (closed f h)),
       )
-
--- ---- over all banks
-
--- the banks' weights together
-abbrev pub weight_in : List Bank → ℕ
-weight_in [] = 0
-weight_in (bank ∷ banks) = weight bank.log + weight_in banks
-
--- the facts of all banks weigh no less
-pub weight_of_facts : (banks : List Bank) → weight_in banks ≤ weight (facts_of banks)
-weight_of_facts [] = omega arith
-weight_of_facts (bank ∷ banks) = omega (arith, weight_of_facts banks, weight_append bank.log (facts_of banks))
 
 -- what sound banks have recorded weighs no more than the steps that the closure can bring
 pub weight_sound : (plan : Parts) (banks : List Bank) → AreSound plan banks → (all : List Fact) → IsClosure plan all → weight_in banks ≤ step_bound all

@@ -3,10 +3,11 @@ use Rattle.std.proofs.Common.{◌≡◌, ℕ, ◌+◌, ◌≤◌, Bool, true, fa
 use Rattle.std.proofs.lemmas.List.Sums.{sum_by_push, sum_by-append}
 use Rattle.ix_cluster.specs.declared.fact.Fact.{Fact}
 use Rattle.ix_cluster.specs.declared.fact.Fact.TheVariants.{Claim}
-use Rattle.ix_cluster.specs.Banks.{is_descriptor}
+use Rattle.ix_cluster.specs.Banks.{is_descriptor, facts_of}
 use Rattle.ix_cluster.specs.Facts.{has, put}
 use Rattle.ix_cluster.specs.Handed.{meets, pair_count}
 use Rattle.ix_cluster.specs.Room.{tally}
+use Rattle.ix_cluster.specs.Seen.{Bank}
 use Rattle.ix_cluster.proofs.Counts.{put-new}
 
 -- whether the fact is a claim
@@ -49,3 +50,15 @@ pairs_append (x ∷ xs) ys = omega (arith, pairs_append xs ys, tally_append (mee
 
 pub weight_append : (xs ys : List Fact) → weight xs + weight ys ≤ weight (xs ++ ys)
 weight_append xs ys = omega (arith, count_append is_descriptor xs ys, count_append is_claim xs ys, pairs_append xs ys)
+
+-- ---- over all banks
+
+-- the banks' weights together
+abbrev pub weight_in : List Bank → ℕ
+weight_in [] = 0
+weight_in (bank ∷ banks) = weight bank.log + weight_in banks
+
+-- the facts of all banks weigh no less
+pub weight_of_facts : (banks : List Bank) → weight_in banks ≤ weight (facts_of banks)
+weight_of_facts [] = omega arith
+weight_of_facts (bank ∷ banks) = omega (arith, weight_of_facts banks, weight_append bank.log (facts_of banks))
