@@ -1,16 +1,17 @@
 //! The four kinds of step, over a bank and the owed steps.
-ghost use Rattle.std.specs.Prelude.{◌≡◌, ℕ, ◌<◌, ◌≤◌, ◌+◌, ◌++◌, List, [], length, Option, Some, OnOk, OnErr};
+ghost use Rattle.std.specs.Prelude.{◌≡◌, ℕ, ◌<◌, ◌≤◌, ◌+◌, ◌^◌, ◌++◌, List, [], length, remove, Option, Some, OnOk, OnErr};
 ghost use Rattle.std.specs.List.{All, cons_option};
 ghost use Rattle.std.specs.Vec.{vec_len, vec_capacity};
 ghost use Rattle.ix_model.specs.declared.grammar.Mark.{Mark};
 ghost use Rattle.ix_model.specs.declared.rules.Sym.TheVariants as sym;
 ghost use Rattle.ix_model.specs.Slots.{sym_after};
 ghost use Rattle.ix_cluster.specs.declared.cluster.Edge.{Edge as Arc};
-ghost use Rattle.ix_cluster.specs.Steps.{end_answer};
+ghost use Rattle.ix_cluster.specs.Room.{unclaimed_in};
+ghost use Rattle.ix_cluster.specs.Steps.{after_arrival, arrival_answer};
 ghost use Rattle.ix_closure.specs.declared.owed.Owed.{Owed as Step};
 ghost use Rattle.ix_closure.specs.declared.owed.Owed.TheVariants as step;
 ghost use Rattle.ix_closure.specs.Events.{bank_after, home_for};
-ghost use Rattle.ix_closure.specs.Follows.{FollowsDesc};
+ghost use Rattle.ix_closure.specs.Follows.{FollowsDesc, FollowsClaim, claim_of, met_edges, met_ends, opened};
 ghost use Rattle.ix_closure.specs.Ready.{HasSlot, HasFurther, IsReady, IsReplaced};
 
 use crate::follow::{push_edges, push_ends, push_opened};
@@ -70,4 +71,169 @@ fn next_step(plan: &Plan, slot: u32, left: u32, pos: u32) -> Option<Owed>
             None => None,
         },
     }
+}
+
+// What a claim brings: nothing, where the descriptor was claimed before.
+fn claimed_step(
+    plan: &Plan,
+    claimed: Claimed,
+    slot: u32,
+    left: u32,
+    pos: u32,
+) -> Option<Owed>
+    requires slot { slot < length plan.now.slots }
+    requires pos { pos ≤ length plan.now.text }
+    ensures { FollowsClaim plan.now claimed slot left pos (cons_option result []) }
+{
+    match claimed {
+        Claimed::Mine => next_step(plan, slot, left, pos),
+        Claimed::Taken => None,
+        Claimed::Unknown => None,
+    }
+}
+
+// The claim of a subtree's descriptor, where it was new.
+fn claim_of(arrived: Arrived, sub: Sub) -> Option<Owed>
+    ensures { cons_option result [] ≡ claim_of arrived sub }
+{
+    match arrived {
+        Arrived::Fresh => Some(Owed::Claim {
+            slot: sub.slot,
+            left: sub.left,
+            pos: sub.right,
+        }),
+        Arrived::Known => None,
+    }
+}
+
+// Takes the n-th owed step out, and appends the step, where there is one.
+fn replace(owed: &mut Vec<Owed>, n: usize, step: Option<Owed>)
+    requires n { n < length owed.old.items }
+    ensures { owed.new.items ≡ remove owed.old.items n ++ cons_option step [] }
+{
+    owed.remove(n);
+    if let Some(step) = step {
+        // The step that was taken out has left room.
+        owed.push_reserved(step);
+    }
+}
+
+fn do_claim(
+    plan: &Plan,
+    bank: &mut Bank,
+    owed: &mut Vec<Owed>,
+    n: usize,
+    slot: u32,
+    left: u32,
+    pos: u32,
+)
+    requires n { n < length owed.old.items }
+    requires ready { IsReady plan.now bank.old.log (step.Claim slot left pos) }
+    ensures bank { bank.new ≡ bank_after plan.now bank.old (step.Claim slot left pos) }
+    ensures owed { IsReplaced plan.now bank.old.log (step.Claim slot left pos) owed.old.items n owed.new.items }
+{
+    let claimed = bank.claim(slot, left, pos);
+    replace(owed, n, claimed_step(plan, claimed, slot, left, pos));
+}
+
+fn do_arrive(
+    bank: &mut Bank,
+    owed: &mut Vec<Owed>,
+    n: usize,
+    sub: Sub,
+) -> Result<(), AllocError>
+    requires n { n < length owed.old.items }
+    ensures bank { OnOk result (bank.new ≡ record { log = after_arrival bank.old.log sub; handed = bank.old.handed }) }
+    ensures owed { OnOk result (owed.new.items ≡ remove owed.old.items n ++ claim_of (arrival_answer bank.old.log sub) sub) }
+    ensures err_bank { OnErr result (bank.new ≡ bank.old) }
+    ensures err_owed { OnErr result (owed.new.items ≡ owed.old.items) }
+{
+    let arrived = bank.arrive(sub)?;
+    replace(owed, n, claim_of(arrived, sub));
+    Ok(())
+}
+
+fn do_end(
+    plan: &Plan,
+    bank: &mut Bank,
+    owed: &mut Vec<Owed>,
+    n: usize,
+    rule: u32,
+    at: u32,
+    end: u32,
+) -> Result<(), AllocError>
+    requires n { n < length owed.old.items }
+    requires ready { IsReady plan.now bank.old.log (step.End rule at end) }
+    ensures bank { OnOk result (bank.new ≡ bank_after plan.now bank.old (step.End rule at end)) }
+    ensures owed { OnOk result (owed.new.items ≡ remove owed.old.items n ++ met_edges bank.old.log rule at end) }
+    ensures err_bank { OnErr result (bank.new ≡ bank.old) }
+    ensures err_owed { OnErr result (owed.new.items ≡ owed.old.items) }
+{
+    owed.reserve(bank.edge_count(rule, at) as usize)?;
+    let edges = bank.add_end(rule, at, end)?;
+    owed.remove(n);
+    push_edges(owed, plan, at, end, edges.as_slice());
+    Ok(())
+}
+
+fn do_edge(
+    plan: &Plan,
+    bank: &mut Bank,
+    owed: &mut Vec<Owed>,
+    n: usize,
+    rule: u32,
+    at: u32,
+    edge: Edge,
+) -> Result<(), AllocError>
+    requires n { n < length owed.old.items }
+    requires ready { IsReady plan.now bank.old.log (step.Edge rule at edge.slot edge.left) }
+    ensures bank { OnOk result (bank.new ≡ bank_after plan.now bank.old (step.Edge rule at edge.slot edge.left)) }
+    ensures owed { OnOk result (owed.new.items ≡ remove owed.old.items n ++ (opened plan.now bank.old.log rule at edge.slot edge.left ++ met_ends bank.old.log rule at edge.slot edge.left)) }
+    ensures err_bank { OnErr result (bank.new ≡ bank.old) }
+    ensures err_owed { OnErr result (owed.new.items ≡ owed.old.items) }
+{
+    // There are fewer facts than any machine has memory for.
+    let _ = bank.fact_count();
+    let alternatives = plan.alt_count(rule) as u64;
+    owed.reserve((alternatives + bank.end_count(rule, at)) as usize)?;
+    let opened = bank.add_edge(plan, rule, at, edge.slot, edge.left)?;
+    owed.remove(n);
+    push_opened(owed, plan, opened.first, rule, at);
+    push_ends(owed, plan, at, edge, opened.ends.as_slice());
+    Ok(())
+}
+
+// Does the n-th owed step, which is this one, on its bank. An error is want of memory, and all is as before.
+pub(crate) fn do_step(
+    plan: &Plan,
+    bank: &mut Bank,
+    owed: &mut Vec<Owed>,
+    n: usize,
+    step: Owed,
+) -> Result<(), AllocError>
+    requires n { n < length owed.old.items }
+    requires ready { IsReady plan.now bank.old.log step }
+    ensures bank { OnOk result (bank.new ≡ bank_after plan.now bank.old step) }
+    ensures owed { OnOk result (IsReplaced plan.now bank.old.log step owed.old.items n owed.new.items) }
+    ensures err_bank { OnErr result (bank.new ≡ bank.old) }
+    ensures err_owed { OnErr result (owed.new.items ≡ owed.old.items) }
+    ensures bounded { length bank.new.log + unclaimed_in bank.new.log < 2 ^ 57 }
+{
+    let done = match step {
+        Owed::Claim { slot, left, pos } => {
+            do_claim(plan, bank, owed, n, slot, left, pos);
+            Ok(())
+        }
+        Owed::Edge {
+            rule,
+            at,
+            slot,
+            left,
+        } => do_edge(plan, bank, owed, n, rule, at, Edge { slot, left }),
+        Owed::End { rule, at, end } => do_end(plan, bank, owed, n, rule, at, end),
+        Owed::Arrive(sub) => do_arrive(bank, owed, n, sub),
+    };
+    // There are fewer facts than any machine has memory for.
+    let _ = bank.fact_count();
+    done
 }
