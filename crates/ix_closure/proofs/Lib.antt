@@ -1,3 +1,4 @@
+pub mod Appends
 pub mod Balancing
 pub mod BankSteps
 pub mod Bringing
