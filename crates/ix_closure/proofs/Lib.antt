@@ -14,8 +14,12 @@ pub mod Members
 pub mod NewCauses
 pub mod Once
 pub mod Opening
+pub mod OpeningBalance
 pub mod Paid
+pub mod Progress
 pub mod Quiet
+pub mod QuietCore
+pub mod Readiness
 pub mod Recording
 pub mod Sets
 pub mod Stepping

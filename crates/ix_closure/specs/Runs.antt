@@ -10,6 +10,10 @@ module _ (plan : Parts) (first : State) where
     rests : Run [] first
     goes_on : (choices : List ℕ) (n : ℕ) (before after : State) → Run choices before → Event plan before n after → Run (choices ++ n ∷ []) after
 
+-- some choice of steps leads from the first state to the last
+abbrev pub IsReached : Parts → State → State → Type 0
+IsReached plan first last = (choices : List ℕ) × Run plan first choices last
+
 -- nothing is owed
 abbrev pub IsQuiet : State → Type 0
 IsQuiet state = state.owed ≡ []

@@ -3,6 +3,8 @@
 
 mod follow;
 mod owed;
+mod state;
 mod steps;
 
 pub use owed::Owed;
+pub use state::{Core, Unfinished};
