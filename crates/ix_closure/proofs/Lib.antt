@@ -5,6 +5,7 @@ pub mod Bringing
 pub mod Causes
 pub mod Claims
 pub mod Clusters
+pub mod CoreSteps
 pub mod FewChoices
 pub mod FewDescriptors
 pub mod FirstsOnce

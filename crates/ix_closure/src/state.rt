@@ -93,6 +93,8 @@ impl<'p> Core<'p> {
         ensures event { OnOk result (Event self.old.plan self.old.state n self.new.state) }
         ensures err { OnErr result (self.new ≡ self.old) }
     {
+        // What holds of each plan: a place has one slot.
+        let _ = self.plan.slot_count();
         let step = self.owed[n as usize];
         let m = home_for(self.plan, self.banks.count(), step) as usize;
         do_step(self.plan, &mut self.banks.banks[m], &mut self.owed, n as usize, step)
