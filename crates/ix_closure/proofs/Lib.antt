@@ -8,6 +8,7 @@ pub mod Clusters
 pub mod CoreSteps
 pub mod FewChoices
 pub mod FewDescriptors
+pub mod Finishing
 pub mod FirstsOnce
 pub mod Following
 pub mod InClosure

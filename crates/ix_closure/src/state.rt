@@ -92,6 +92,8 @@ impl<'p> Core<'p> {
         ensures plan { self.new.plan ≡ self.old.plan }
         ensures event { OnOk result (Event self.old.plan self.old.state n self.new.state) }
         ensures err { OnErr result (self.new ≡ self.old) }
+        // No list is longer.
+        ensures small { length self.new.state.owed < 2 ^ 63 }
     {
         // What holds of each plan: a place has one slot.
         let _ = self.plan.slot_count();
