@@ -1,6 +1,9 @@
 pub mod BankSteps
 pub mod Causes
+pub mod Counting
 pub mod Members
+pub mod Once
 pub mod Recording
 pub mod Sets
 pub mod Stepping
+pub mod Times
