@@ -1,6 +1,7 @@
 pub mod BankSteps
 pub mod Causes
 pub mod Counting
+pub mod DueCauses
 pub mod Members
 pub mod Once
 pub mod Recording
