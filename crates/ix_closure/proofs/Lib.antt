@@ -1,10 +1,13 @@
 pub mod BankSteps
 pub mod Causes
 pub mod Counting
+pub mod Done
 pub mod DueCauses
+pub mod Logs
 pub mod Members
 pub mod Once
 pub mod Recording
 pub mod Sets
 pub mod Stepping
+pub mod Tidied
 pub mod Times

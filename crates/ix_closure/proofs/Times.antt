@@ -46,7 +46,7 @@ module _ {X : Type 0} (p : X → Bool) where
 -- ---- steps
 
 -- steps that record one fact are the same
-fact_of-same : (a b : Owed) → fact_of a ≡ fact_of b → a ≡ b
+pub fact_of-same : (a b : Owed) → fact_of a ≡ fact_of b → a ≡ b
 fact_of-same (Claim s l p) (Claim s' l' p') e = cc
 fact_of-same (Edge r k s l) (Edge r' k' s' l') e = cc
 fact_of-same (End r k e') (End r' k' e'') e = cc
