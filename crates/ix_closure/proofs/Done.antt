@@ -61,7 +61,7 @@ event_done plan planned old new n balanced event = record {
 }
 
 module _ (plan : Parts) (planned : IsPlanned plan) (old new : State) (n : ℕ) (log : List Fact) (step : Owed) (more : List Owed) (done : IsDone plan old new n log step more) where
-  step_owed : Contains old.owed step
+  pub step_owed : Contains old.owed step
   step_owed = nth_has old.owed n step done.taken
 
   -- what is recorded now was recorded before, or it is the step's own fact, or one beside it

@@ -3,6 +3,7 @@ pub mod Causes
 pub mod Counting
 pub mod Done
 pub mod DueCauses
+pub mod Known
 pub mod Logs
 pub mod Members
 pub mod Once
@@ -10,4 +11,5 @@ pub mod Recording
 pub mod Sets
 pub mod Stepping
 pub mod Tidied
+pub mod TidyClaim
 pub mod Times
