@@ -7,7 +7,8 @@ use Rattle.ix_model.specs.declared.sub.Sub.{Sub}
 use Rattle.ix_model.specs.Parts.{Parts}
 use Rattle.ix_model.specs.Planned.{IsPlanned}
 use Rattle.ix_model.specs.SlotPlaces.{HasNext, IsFirst}
-use Rattle.ix_model.specs.Slots.{sym_after}
+use Rattle.ix_model.specs.Closed as closed
+use Rattle.ix_model.proofs.ClosedLinks.{edge_from}
 use Rattle.ix_model.proofs.SlotPlaces.{same_slot, same_before}
 use Rattle.ix_model.proofs.SlotReaders.{next_reads}
 use Rattle.ix_cluster.specs.declared.fact.Fact.{Fact}
@@ -35,6 +36,12 @@ pub next_same : (plan : Parts) → IsPlanned plan → (s after after' : ℕ) (x 
 next_same plan planned s after after' x y h k =
     let e : Some x ≡ Some y = sym (next_reads plan planned s after x h).1 ∙ (next_reads plan planned s after' y k).1 in
     cc
+
+-- behind the dot of an edge's slot its rule stands, and the next slot has the next number
+pub edge_next : (plan : Parts) → IsPlanned plan → (r k s l : ℕ) → closed.Edge plan r k s l → (mark : Option Mark) × HasNext plan s (s + 1) (sy.Rule r mark)
+edge_next plan planned r k s l edge =
+    let p = (edge_from plan r k s l edge).1 in
+    (p.1, subst (λ (after : ℕ). HasNext plan s after (sy.Rule r p.1)) (next_reads plan planned s p.0 (sy.Rule r p.1) p.2).2 p.2)
 
 module _ (plan : Parts) (planned : IsPlanned plan) (Holds : Fact → Type 0) where
   -- what an arrival behind the symbol follows from

@@ -1,8 +1,10 @@
 pub mod BankSteps
 pub mod Causes
+pub mod ClusterLists
 pub mod Counting
 pub mod Done
 pub mod DueCauses
+pub mod FirstsOnce
 pub mod Known
 pub mod Logs
 pub mod Members
@@ -11,5 +13,7 @@ pub mod Recording
 pub mod Sets
 pub mod Stepping
 pub mod Tidied
+pub mod TidyArrive
 pub mod TidyClaim
+pub mod TidyEnd
 pub mod Times

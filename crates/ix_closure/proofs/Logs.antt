@@ -1,5 +1,5 @@
 -- What a step records.
-use Rattle.std.proofs.Common.{◌≡◌, ℕ, Bool, true, false, cond, List, Contains, refl, ◌⊎◌, inl, inr}
+use Rattle.std.proofs.Common.{◌≡◌, ℕ, Bool, true, false, cond, List, Contains, refl, sym, ◌∙◌, ◌⊎◌, inl, inr, true≢false}
 use Rattle.ix_model.specs.declared.sub.Sub.{Sub}
 use Rattle.ix_model.specs.Parts.{Parts}
 use Rattle.ix_cluster.specs.declared.fact.Fact.{Fact}
@@ -8,11 +8,15 @@ use Rattle.ix_cluster.specs.Facts.{has, put}
 use Rattle.ix_cluster.specs.Firsts.{firsts_of}
 use Rattle.ix_cluster.specs.Steps.{after_call}
 use Rattle.ix_cluster.proofs.Calls.{IsBegun, call-from}
-use Rattle.ix_cluster.proofs.Members.{put-from}
+use Rattle.ix_cluster.proofs.Members.{put-from, has-Contains}
 use Rattle.ix_closure.specs.declared.owed.Owed.{Owed}
 use Rattle.ix_closure.specs.declared.owed.Owed.TheVariants.{Claim, Edge, End, Arrive}
 use Rattle.ix_closure.specs.Events.{log_after}
 use Rattle.ix_closure.specs.Follows.{fact_of}
+
+-- where the test of a log fails it has no such fact
+pub has_none : (log : List Fact) (f : Fact) → has log f ≡ false → ¬ (Contains log f)
+has_none log f e c = true≢false (sym (has-Contains log f c) ∙ e)
 
 -- the fact is one that the step records beside its own: what a call records, or the descriptor of a subtree
 unfoldable pub IsBeside : Parts → List Fact → Owed → Fact → Type 0

@@ -43,12 +43,19 @@ module _ {X Y : Type 0} where
       by None e rest = rest
       by (Some y) e rest = ((λ c. let p = filter_from f xs y c in h.0 (subst (Contains xs) (apart p.0 x y p.2 e) p.1)), rest)
 
--- the numbers of a range are at least its first
+-- the numbers of a range are between its ends
 range_from : (n len x : ℕ) → Contains (range_with_len n len) x → n ≤ x
 range_from n zero x c = absurd (none_has x c)
 range_from n (suc len) x c = elim (either_has n (range_with_len (n + 1) len) x c) [
     inl e ↦ omega (arith, e)
   | inr r ↦ omega (arith, range_from (n + 1) len x r)
+  ]
+
+pub range_within : (n len x : ℕ) → Contains (range_with_len n len) x → x < n + len
+range_within n zero x c = absurd (none_has x c)
+range_within n (suc len) x c = elim (either_has n (range_with_len (n + 1) len) x c) [
+    inl e ↦ omega (arith, e)
+  | inr r ↦ omega (arith, range_within (n + 1) len x r)
   ]
 
 pub once_range : (n len : ℕ) → IsOnceEach (range_with_len n len)

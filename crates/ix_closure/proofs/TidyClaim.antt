@@ -33,7 +33,7 @@ use Rattle.ix_closure.proofs.DueCauses.{ArrivesBy, cause_of}
 use Rattle.ix_closure.proofs.Known.{edge_known, arrival_known}
 use Rattle.ix_closure.proofs.Logs.{IsBeside}
 use Rattle.ix_closure.proofs.Tidied.{HasCause, IsSingle, IsKnown}
-use Rattle.ix_closure.proofs.Times.{count-append, count-cons, times-some, times-none, same_step-refl, same_step-true}
+use Rattle.ix_closure.proofs.Times.{count-append, count-cons, times-some, times-none, times-one, same_step-refl, same_step-true}
 
 module _ (plan : Parts) (planned : IsPlanned plan) (old new : State) (n : ℕ) (log : List Fact) (s l p : ℕ) (more : List Owed)
     (done : IsDone plan old new n log (Claim s l p) more) (tidy : IsTidy plan old) where
@@ -67,23 +67,19 @@ module _ (plan : Parts) (planned : IsPlanned plan) (old new : State) (n : ℕ) (
     | inr w ↦ elim w [ inl e ↦ inr (subst (HasCause plan new) e tt) | inr b ↦ absurd b ]
   ]
 
-  -- one step alone is owed once among those brought
-  one_brought : (y x : Owed) → Contains (y ∷ []) x → times (y ∷ []) x ≡ 1
-  one_brought y x c = subst (λ z. times (y ∷ []) z ≡ 1) (one_has y x c) (omega (arith, ap {B = ℕ} (λ b. cond b 1 0) (same_step-refl y)))
-
   -- what the claim brings was not known
   brought : (steps : List Owed) → FollowsDesc plan s l p steps → (x : Owed) → IsSingle x → Contains steps x → (times steps x ≡ 1) × ¬ (IsKnown old x)
   brought steps (passes x after e next t) o single c = (
-    one_brought (Arrive (sub_of after l p e)) o c,
+    times-one (Arrive (sub_of after l p e)) o c,
     λ known. unclaimed (subst (ArrivesBy plan planned (IsRecorded old.banks) s l p e) t.3 (arrival_known plan planned old tidy (sub_of after l p e) (subst (IsKnown old) (sym (one_has (Arrive (sub_of after l p e)) o c)) known) s x next)),
   )
   brought steps (stops t shown after next none) o single c = absurd (none_has o c)
   brought steps (inserts m after next) o single c = (
-    one_brought (Arrive (sub_of after l p p)) o c,
+    times-one (Arrive (sub_of after l p p)) o c,
     λ known. unclaimed (arrival_known plan planned old tidy (sub_of after l p p) (subst (IsKnown old) (sym (one_has (Arrive (sub_of after l p p)) o c)) known) s (sy.Insert m) next),
   )
   brought steps (calls r after mark next) o single c = (
-    one_brought (Edge r p s l) o c,
+    times-one (Edge r p s l) o c,
     λ known. unclaimed (edge_known plan planned old tidy r p s l (subst (IsKnown old) (sym (one_has (Edge r p s l) o c)) known)),
   )
   brought steps (ends r last) o single c = absurd (subst IsSingle (sym (one_has (End r l p) o c)) single)

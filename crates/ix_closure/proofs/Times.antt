@@ -6,7 +6,7 @@ use Rattle.ix_cluster.specs.declared.fact.Fact.{Fact}
 use Rattle.ix_cluster.specs.declared.fact.Fact.TheVariants as fact
 use Rattle.ix_cluster.proofs.Counts.{either}
 use Rattle.ix_cluster.proofs.FactLemmas.{same_fact-true, same_fact-refl}
-use Rattle.ix_cluster.proofs.Members.{either_has, none_has, rest_has, first_has}
+use Rattle.ix_cluster.proofs.Members.{either_has, none_has, one_has, rest_has, first_has}
 use Rattle.ix_closure.specs.declared.owed.Owed.{Owed}
 use Rattle.ix_closure.specs.declared.owed.Owed.TheVariants.{Claim, Edge, End, Arrive}
 use Rattle.ix_closure.specs.Follows.{fact_of}
@@ -84,6 +84,10 @@ times-taken xs n x e = omega (arith, count-remove (same_step x) xs n x e, ap {B 
 
 pub times-left : (xs : List Owed) (n : ℕ) (y x : Owed) → slice_get xs n ≡ Some y → (x ≡ y → ⊥) → times (remove xs n) x ≡ times xs x
 times-left xs n y x e apart = omega (arith, count-remove (same_step x) xs n y e, ap {B = ℕ} (λ b. cond b 1 0) (same_step-false x y apart))
+
+-- a step that is owed alone is owed once
+pub times-one : (y x : Owed) → Contains (y ∷ []) x → times (y ∷ []) x ≡ 1
+times-one y x c = subst (λ z. times (y ∷ []) z ≡ 1) (one_has y x c) (omega (arith, ap {B = ℕ} (λ b. cond b 1 0) (same_step-refl y)))
 
 -- where each step stands once it is owed once
 pub times-once : (xs : List Owed) (x : Owed) → IsOnceEach xs → Contains xs x → times xs x ≡ 1
