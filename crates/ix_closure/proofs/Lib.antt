@@ -15,5 +15,7 @@ pub mod Stepping
 pub mod Tidied
 pub mod TidyArrive
 pub mod TidyClaim
+pub mod TidyEdge
 pub mod TidyEnd
+pub mod Tidying
 pub mod Times

@@ -8,7 +8,8 @@ use Rattle.ix_cluster.specs.Facts.{has, put}
 use Rattle.ix_cluster.specs.Firsts.{firsts_of}
 use Rattle.ix_cluster.specs.Steps.{after_call}
 use Rattle.ix_cluster.proofs.Calls.{IsBegun, call-from}
-use Rattle.ix_cluster.proofs.Members.{put-from, has-Contains}
+use Rattle.ix_cluster.proofs.Counts.{either}
+use Rattle.ix_cluster.proofs.Members.{put-from, has-Contains, Contains-has}
 use Rattle.ix_closure.specs.declared.owed.Owed.{Owed}
 use Rattle.ix_closure.specs.declared.owed.Owed.TheVariants.{Claim, Edge, End, Arrive}
 use Rattle.ix_closure.specs.Events.{log_after}
@@ -17,6 +18,13 @@ use Rattle.ix_closure.specs.Follows.{fact_of}
 -- where the test of a log fails it has no such fact
 pub has_none : (log : List Fact) (f : Fact) → has log f ≡ false → ¬ (Contains log f)
 has_none log f e c = true≢false (sym (has-Contains log f c) ∙ e)
+
+pub has_not : (log : List Fact) (f : Fact) → ¬ (Contains log f) → has log f ≡ false
+has_not log f none = by (either (has log f))
+  where
+    by : (has log f ≡ true) ⊎ (has log f ≡ false) → has log f ≡ false
+    by (inl t) = absurd (none (Contains-has log f t))
+    by (inr e) = e
 
 -- the fact is one that the step records beside its own: what a call records, or the descriptor of a subtree
 unfoldable pub IsBeside : Parts → List Fact → Owed → Fact → Type 0

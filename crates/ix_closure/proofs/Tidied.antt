@@ -1,5 +1,5 @@
 -- A state is tidy where each recorded fact has its cause and each owed step its number.
-use Rattle.std.proofs.Common.{◌≡◌, ℕ, ◌+◌, ◌≤◌, Bool, true, false, List, ◌++◌, Contains, remove, count_by, Some, slice_get, refl, sym, ap, ◌∙◌, subst, ◌⊎◌, inl, inr, arith}
+use Rattle.std.proofs.Common.{◌≡◌, ℕ, ◌+◌, ◌<◌, ◌≤◌, length, Bool, true, false, List, ◌++◌, Contains, remove, count_by, Some, slice_get, refl, sym, ap, ◌∙◌, subst, ◌⊎◌, inl, inr, arith}
 use Rattle.std.specs.List.{IsDistinct}
 use Rattle.std.proofs.lemmas.List.Elements.{Contains-append_cases}
 use Rattle.ix_model.specs.declared.sub.Sub.{Sub}
@@ -13,8 +13,9 @@ use Rattle.ix_cluster.specs.Facts.{same_fact}
 use Rattle.ix_cluster.specs.Homes.{home_of}
 use Rattle.ix_cluster.specs.Steps.{empty_sub}
 use Rattle.ix_cluster.proofs.Calls.{IsBegun}
-use Rattle.ix_cluster.proofs.Beginning.{firsts_are}
-use Rattle.ix_model.proofs.ClosedWithin.{edge_within}
+use Rattle.ix_cluster.specs.Firsts.{firsts_of}
+use Rattle.ix_cluster.proofs.Beginning.{firsts_are, ends_at_once}
+use Rattle.ix_model.proofs.SlotReaders.{first_reads}
 use Rattle.ix_closure.specs.declared.owed.Owed.{Owed}
 use Rattle.ix_closure.specs.declared.owed.Owed.TheVariants.{Claim, Edge, End, Arrive}
 use Rattle.ix_closure.specs.Balance.{IsBalanced}
@@ -95,3 +96,16 @@ cause_grows plan old new grows (fact.Part sub) h = elim h [
 cause_grows plan old new grows (fact.Called r k) h = tt
 cause_grows plan old new grows (fact.End r k e) h = tt
 cause_grows plan old new grows (fact.Claim s l p) h = tt
+
+-- what the beginning of a called rule's alternatives records has its cause
+pub begun_cause : (plan : Parts) → IsPlanned plan → (state : State) (r k : ℕ) → r < length plan.rules.flats → IsRecorded state.banks (fact.Called r k) → (f : Fact) → IsBegun plan k (firsts_of plan r) f → HasCause plan state f
+unfolding IsBegun
+begun_cause plan planned state r k there called f begun =
+    let first = firsts_are plan planned r begun.0 there begun.1 in
+    elim begun.2 [
+      | inl e ↦ subst (HasCause plan state) e (
+        (λ q other. subst (λ (z : ℕ). IsRecorded state.banks (fact.Called z k)) (sym (first_reads plan begun.0 r first).1 ∙ (first_reads plan begun.0 q other).1) called),
+        (λ none. absurd (none r first)),
+      )
+      | inr e ↦ subst (HasCause plan state) e.1 (inl (r, first, ends_at_once plan planned r begun.0 first e.0, called, refl))
+    ]

@@ -31,7 +31,7 @@ use Rattle.ix_closure.specs.Tidy.{IsTidy}
 use Rattle.ix_closure.proofs.Done.{IsDone, newly, step_owed, tidy_after}
 use Rattle.ix_closure.proofs.DueCauses.{ArrivesBy, cause_of}
 use Rattle.ix_closure.proofs.Known.{edge_known, arrival_known}
-use Rattle.ix_closure.proofs.Logs.{IsBeside}
+use Rattle.ix_closure.proofs.Logs.{IsBeside, has_not}
 use Rattle.ix_closure.proofs.Tidied.{HasCause, IsSingle, IsKnown}
 use Rattle.ix_closure.proofs.Times.{count-append, count-cons, times-some, times-none, times-one, same_step-refl, same_step-true}
 
@@ -42,11 +42,7 @@ module _ (plan : Parts) (planned : IsPlanned plan) (old new : State) (n : ℕ) (
   unclaimed = (tidy.claims s l p (step_owed plan planned old new n log (Claim s l p) more done)).1
 
   no_claim : has log (fact.Claim s l p) ≡ false
-  no_claim = by (either (has log (fact.Claim s l p)))
-    where
-      by : (has log (fact.Claim s l p) ≡ true) ⊎ (has log (fact.Claim s l p) ≡ false) → has log (fact.Claim s l p) ≡ false
-      by (inl t) = absurd (unclaimed (done.moves.back (fact.Claim s l p) (Contains-has log (fact.Claim s l p) t)))
-      by (inr f) = f
+  no_claim = has_not log (fact.Claim s l p) (λ c. unclaimed (done.moves.back (fact.Claim s l p) c))
 
   descriptor : has log (fact.Desc s l p) ≡ true
   descriptor = has-Contains log (fact.Desc s l p) (done.moves.here (fact.Desc s l p) refl (cause_of plan planned (IsRecorded old.banks) (Claim s l p) done.due))

@@ -34,7 +34,11 @@ use Rattle.ix_closure.proofs.Times.{times-once}
 
 -- edges with one arrival are the same
 same_arrival : (k e : ℕ) (a b : Arc) → arrival k e a ≡ arrival k e b → a ≡ b
-same_arrival k e a b h = ?
+same_arrival k e a b h =
+    let same : sub_of (a.slot + 1) a.left k e ≡ sub_of (b.slot + 1) b.left k e = cc in
+    let slot : a.slot ≡ b.slot = omega (arith, ap (λ (u : Sub). u.slot) same) in
+    let left : a.left ≡ b.left = ap (λ (u : Sub). u.left) same in
+    subst (λ (l : ℕ). a ≡ record { slot = b.slot; left = l }) left (subst (λ (s : ℕ). a ≡ record { slot = s; left = a.left }) slot refl)
 
 module _ (plan : Parts) (planned : IsPlanned plan) (old new : State) (n : ℕ) (log : List Fact) (r k e : ℕ) (more : List Owed)
     (done : IsDone plan old new n log (End r k e) more) (tidy : IsTidy plan old) where
