@@ -1,7 +1,6 @@
 -- The edges and ends that a log lists for a cluster are those of the log, each once.
-use Rattle.std.proofs.Common.{◌≡◌, ℕ, Bool, true, false, cond, List, Contains, Option, Some, None, refl, sym, ap, ◌∙◌, subst}
+use Rattle.std.proofs.Common.{◌≡◌, ℕ, Bool, true, false, cond, List, Contains, Some, None, refl, sym, ap, ◌∙◌, subst}
 use Rattle.std.specs.List.{IsDistinct}
-use Rattle.ix_model.specs.declared.sub.Sub.{Sub}
 use Rattle.ix_cluster.specs.declared.cluster.Cluster.{Cluster}
 use Rattle.ix_cluster.specs.declared.cluster.Edge.{Edge as Arc}
 use Rattle.ix_cluster.specs.declared.fact.Fact.{Fact}

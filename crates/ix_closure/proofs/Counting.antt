@@ -1,6 +1,5 @@
 -- How many recorded facts pass a test, as a step is done.
-use Rattle.std.proofs.Common.{◌≡◌, ℕ, zero, suc, ◌+◌, ◌≤◌, Bool, true, false, cond, List, [], ◌∷◌, ◌++◌, count_by, Some, slice_get, slice_set, refl, sym, ap, ◌∙◌, subst, arith}
-use Rattle.ix_model.specs.declared.sub.Sub.{Sub}
+use Rattle.std.proofs.Common.{◌≡◌, ℕ, zero, suc, ◌+◌, ◌≤◌, Bool, true, false, cond, List, [], ◌∷◌, ◌++◌, count_by, Some, slice_get, slice_set, ap, arith}
 use Rattle.ix_model.specs.Parts.{Parts}
 use Rattle.ix_cluster.specs.declared.fact.Fact.{Fact}
 use Rattle.ix_cluster.specs.declared.fact.Fact.TheVariants as fact
@@ -12,7 +11,7 @@ use Rattle.ix_cluster.specs.Steps.{empty_sub, after_first, after_firsts, after_c
 use Rattle.ix_closure.specs.declared.owed.Owed.{Owed}
 use Rattle.ix_closure.specs.declared.owed.Owed.TheVariants.{Claim, Edge, End, Arrive}
 use Rattle.ix_closure.specs.Events.{log_after}
-use Rattle.ix_closure.proofs.Times.{count-cons, count-append}
+use Rattle.ix_closure.proofs.Times.{count-append}
 
 module _ (p : Fact → Bool) where
   -- ---- in all banks

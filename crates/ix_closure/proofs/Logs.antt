@@ -1,6 +1,5 @@
 -- What a step records.
-use Rattle.std.proofs.Common.{◌≡◌, ℕ, Bool, true, false, cond, List, Contains, refl, sym, ◌∙◌, ◌⊎◌, inl, inr, true≢false}
-use Rattle.ix_model.specs.declared.sub.Sub.{Sub}
+use Rattle.std.proofs.Common.{◌≡◌, Bool, true, false, cond, List, Contains, sym, ◌∙◌, ◌⊎◌, inl, inr, true≢false}
 use Rattle.ix_model.specs.Parts.{Parts}
 use Rattle.ix_cluster.specs.declared.fact.Fact.{Fact}
 use Rattle.ix_cluster.specs.declared.fact.Fact.TheVariants as fact
@@ -49,11 +48,11 @@ log_from plan log (Edge r k s l) f h = by (has log (fact.Edge r k s l)) h
     by : (b : Bool) → Contains (cond b log (put (after_call plan log r k) (fact.Edge r k s l))) f → Contains log f ⊎ ((fact.Edge r k s l ≡ f) ⊎ called)
     by true c = inl c
     by false c = elim (put-from (after_call plan log r k) (fact.Edge r k s l) f c) [
-        inl o ↦ elim (call-from plan log r k f o) [ inl w ↦ inl w | inr n ↦ inr (inr n) ]
+      | inl o ↦ elim (call-from plan log r k f o) [ inl w ↦ inl w | inr n ↦ inr (inr n) ]
       | inr e ↦ inr (inl e)
-      ]
+    ]
 log_from plan log (End r k e) f h = elim (put-from log (fact.End r k e) f h) [ inl o ↦ inl o | inr w ↦ inr (inl w) ]
 log_from plan log (Arrive sub) f h = elim (put-from (put log (fact.Part sub)) (fact.Desc sub.slot sub.left sub.right) f h) [
-    inl o ↦ elim (put-from log (fact.Part sub) f o) [ inl w ↦ inl w | inr e ↦ inr (inl e) ]
+  | inl o ↦ elim (put-from log (fact.Part sub) f o) [ inl w ↦ inl w | inr e ↦ inr (inl e) ]
   | inr e ↦ inr (inr e)
-  ]
+]

@@ -1,5 +1,5 @@
 -- Lists in which each element stands once.
-use Rattle.std.proofs.Common.{◌≡◌, ℕ, zero, suc, ◌+◌, ◌<◌, ◌≤◌, Bool, true, false, List, [], ◌∷◌, Contains, map, Option, Some, None, refl, sym, ap, ◌∙◌, subst, ◌⊎◌, inl, inr, arith, true≢false}
+use Rattle.std.proofs.Common.{◌≡◌, ℕ, zero, suc, ◌+◌, ◌<◌, ◌≤◌, Bool, true, false, List, [], ◌∷◌, Contains, map, Option, Some, None, refl, sym, ◌∙◌, subst, inl, inr, arith, true≢false}
 use Rattle.std.specs.List.{IsDistinct, AllByRecursion, filter_map, cons_option, range_with_len}
 use Rattle.ix_cluster.proofs.Members.{either_has, none_has, rest_has, first_has}
 use Rattle.ix_closure.proofs.Members.{map_from, filter_from}
@@ -13,9 +13,9 @@ module _ {X : Type 0} where
   apart_from : (e : X → X → Bool) (x : X) (xs : List X) → e x x ≡ true → AllByRecursion (λ y. e x y ≡ false) xs → Contains xs x → ⊥
   apart_from e x [] same h c = none_has x c
   apart_from e x (y ∷ ys) same h c = elim (either_has y ys x c) [
-      inl w ↦ true≢false (sym same ∙ subst (λ z. e x z ≡ false) w h.0)
+    | inl w ↦ true≢false (sym same ∙ subst (λ z. e x z ≡ false) w h.0)
     | inr r ↦ apart_from e x ys same h.1 r
-    ]
+  ]
 
   -- so it is where a test that finds each element itself finds no two alike
   pub once_distinct : (e : X → X → Bool) → ((x : X) → e x x ≡ true) → (xs : List X) → IsDistinct e xs → IsOnceEach xs
@@ -47,16 +47,16 @@ module _ {X Y : Type 0} where
 range_from : (n len x : ℕ) → Contains (range_with_len n len) x → n ≤ x
 range_from n zero x c = absurd (none_has x c)
 range_from n (suc len) x c = elim (either_has n (range_with_len (n + 1) len) x c) [
-    inl e ↦ omega (arith, e)
+  | inl e ↦ omega (arith, e)
   | inr r ↦ omega (arith, range_from (n + 1) len x r)
-  ]
+]
 
 pub range_within : (n len x : ℕ) → Contains (range_with_len n len) x → x < n + len
 range_within n zero x c = absurd (none_has x c)
 range_within n (suc len) x c = elim (either_has n (range_with_len (n + 1) len) x c) [
-    inl e ↦ omega (arith, e)
+  | inl e ↦ omega (arith, e)
   | inr r ↦ omega (arith, range_within (n + 1) len x r)
-  ]
+]
 
 pub once_range : (n len : ℕ) → IsOnceEach (range_with_len n len)
 unfolding IsOnceEach

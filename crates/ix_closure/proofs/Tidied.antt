@@ -1,17 +1,11 @@
 -- A state is tidy where each recorded fact has its cause and each owed step its number.
-use Rattle.std.proofs.Common.{◌≡◌, ℕ, ◌+◌, ◌<◌, ◌≤◌, length, Bool, true, false, List, ◌++◌, Contains, remove, count_by, Some, slice_get, refl, sym, ap, ◌∙◌, subst, ◌⊎◌, inl, inr, arith}
-use Rattle.std.specs.List.{IsDistinct}
-use Rattle.std.proofs.lemmas.List.Elements.{Contains-append_cases}
-use Rattle.ix_model.specs.declared.sub.Sub.{Sub}
+use Rattle.std.proofs.Common.{ℕ, ◌<◌, ◌≤◌, length, Contains, refl, sym, ◌∙◌, subst, ◌⊎◌, inl, inr}
 use Rattle.ix_model.specs.Parts.{Parts}
 use Rattle.ix_model.specs.Planned.{IsPlanned}
-use Rattle.ix_model.specs.SlotPlaces.{IsFirst, IsLast}
+use Rattle.ix_model.specs.SlotPlaces.{IsFirst}
 use Rattle.ix_cluster.specs.declared.fact.Fact.{Fact}
 use Rattle.ix_cluster.specs.declared.fact.Fact.TheVariants as fact
 use Rattle.ix_cluster.specs.Banks.{facts_of}
-use Rattle.ix_cluster.specs.Facts.{same_fact}
-use Rattle.ix_cluster.specs.Homes.{home_of}
-use Rattle.ix_cluster.specs.Steps.{empty_sub}
 use Rattle.ix_cluster.proofs.Calls.{IsBegun}
 use Rattle.ix_cluster.specs.Firsts.{firsts_of}
 use Rattle.ix_cluster.proofs.Beginning.{firsts_are, ends_at_once}
@@ -20,20 +14,11 @@ use Rattle.ix_closure.specs.declared.owed.Owed.{Owed}
 use Rattle.ix_closure.specs.declared.owed.Owed.TheVariants.{Claim, Edge, End, Arrive}
 use Rattle.ix_closure.specs.Balance.{IsBalanced}
 use Rattle.ix_closure.specs.Due.{IsRecorded, FollowsIn}
-use Rattle.ix_closure.specs.Events.{Event, log_after, home_for}
-use Rattle.ix_closure.specs.Follows.{fact_of, sub_of, Follows}
-use Rattle.ix_closure.specs.Quantity.{times, givers, gives}
+use Rattle.ix_closure.specs.Follows.{fact_of, sub_of}
+use Rattle.ix_closure.specs.Quantity.{times, givers}
 use Rattle.ix_closure.specs.Seen.{State}
 use Rattle.ix_closure.specs.Tidy.{IsTidy, IsEmptyOfCalled, IsOwedOnce}
-use Rattle.ix_closure.proofs.Counting.{count-set, count-after}
-use Rattle.ix_closure.proofs.DueCauses.{due_grows, arrival_not_first}
-use Rattle.ix_closure.proofs.Logs.{IsBeside, log_from}
-use Rattle.ix_closure.proofs.Members.{nth_has, left_was}
-use Rattle.ix_closure.proofs.Recording.{Moves, recorded_closed}
-use Rattle.ix_closure.proofs.Stepping.{step_closed, event_moves}
-use Rattle.ix_closure.proofs.Times.{count-remove, times-some, times-none, times-append, times-taken, times-left}
-
--- ---- a state
+use Rattle.ix_closure.proofs.DueCauses.{due_grows}
 
 -- what must be recorded for the fact to be recorded
 abbrev pub HasCause : Parts → State → Fact → Type 0
@@ -55,6 +40,7 @@ abbrev pub IsKnown : State → Owed → Type 0
 IsKnown state x = Contains state.owed x ⊎ IsRecorded state.banks (fact_of x)
 
 module _ (plan : Parts) (state : State) where
+  -- so a state is tidy
   pub tidy_by : IsBalanced plan state → ((f : Fact) → IsRecorded state.banks f → HasCause plan state f) → ((x : Owed) → IsSingle x → Contains state.owed x → IsOwedOnce state x) → ((r k e : ℕ) → times state.owed (End r k e) ≤ givers plan (facts_of state.banks) r k e) → IsTidy plan state
   tidy_by balanced caused once ends = record {
     balanced = balanced;
@@ -68,6 +54,7 @@ module _ (plan : Parts) (state : State) where
     owed_ends = ends;
   }
 
+  -- and so it is where it is tidy
   pub tidy_caused : IsTidy plan state → (f : Fact) → IsRecorded state.banks f → HasCause plan state f
   tidy_caused tidy (fact.Desc s l p) h = ((λ r first. tidy.first_descs s l p r h first), (λ other. tidy.other_descs s l p h other))
   tidy_caused tidy (fact.Edge r k s l) h = tidy.edges r k s l h
@@ -90,9 +77,9 @@ cause_grows plan old new grows (fact.Desc s l p) h = (
 )
 cause_grows plan old new grows (fact.Edge r k s l) h = grows (fact.Claim s l k) h
 cause_grows plan old new grows (fact.Part sub) h = elim h [
-    inl e ↦ inl (e.0, e.1, e.2, grows (fact.Called e.0 sub.left) e.3, e.4)
+  | inl e ↦ inl (e.0, e.1, e.2, grows (fact.Called e.0 sub.left) e.3, e.4)
   | inr due ↦ inr (due_grows plan (IsRecorded old.banks) (IsRecorded new.banks) grows (Arrive sub) due)
-  ]
+]
 cause_grows plan old new grows (fact.Called r k) h = tt
 cause_grows plan old new grows (fact.End r k e) h = tt
 cause_grows plan old new grows (fact.Claim s l p) h = tt

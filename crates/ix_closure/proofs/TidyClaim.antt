@@ -1,24 +1,18 @@
 -- A claim keeps a state tidy.
-use Rattle.std.proofs.Common.{◌≡◌, ℕ, ◌+◌, ◌≤◌, Bool, true, false, cond, ◌&&◌, ◌==◌, List, [], ◌∷◌, ◌++◌, Contains, count_by, refl, sym, ap, ◌∙◌, subst, ◌⊎◌, inl, inr, arith, true≢false, length}
+use Rattle.std.proofs.Common.{◌≡◌, ℕ, ◌+◌, ◌≤◌, Bool, true, false, cond, List, [], ◌∷◌, ◌++◌, Contains, count_by, refl, sym, ap, ◌∙◌, subst, ◌⊎◌, inl, inr, arith}
 use Rattle.std.proofs.lemmas.Bool.Decides.{nat_tests}
-use Rattle.ix_model.specs.declared.rules.Sym.{Sym}
 use Rattle.ix_model.specs.declared.rules.Sym.TheVariants as sy
-use Rattle.ix_model.specs.declared.sub.Sub.{Sub}
 use Rattle.ix_model.specs.Parts.{Parts}
 use Rattle.ix_model.specs.Planned.{IsPlanned}
-use Rattle.ix_model.specs.SlotPlaces.{HasNext, IsLast}
-use Rattle.ix_model.specs.FlatDerives.{IsTerminal}
-use Rattle.ix_model.specs.Slots.{info_at}
 use Rattle.ix_model.proofs.SlotReaders.{last_reads}
 use Rattle.ix_cluster.specs.declared.answers.Claimed.TheVariants.{Mine, Taken, Unknown}
 use Rattle.ix_cluster.specs.declared.fact.Fact.{Fact}
 use Rattle.ix_cluster.specs.declared.fact.Fact.TheVariants as fact
 use Rattle.ix_cluster.specs.Banks.{facts_of}
 use Rattle.ix_cluster.specs.Facts.{has, put}
-use Rattle.ix_cluster.specs.Firsts.{is_at_end}
 use Rattle.ix_cluster.proofs.Beginning.{at_end_of}
 use Rattle.ix_cluster.proofs.Counts.{either, put-new}
-use Rattle.ix_cluster.proofs.Members.{one_has, none_has, has-Contains, Contains-has, first_has}
+use Rattle.ix_cluster.proofs.Members.{one_has, none_has, has-Contains}
 use Rattle.ix_closure.specs.declared.owed.Owed.{Owed}
 use Rattle.ix_closure.specs.declared.owed.Owed.TheVariants.{Claim, Edge, End, Arrive}
 use Rattle.ix_closure.specs.Balance.{IsBalanced}
@@ -33,7 +27,7 @@ use Rattle.ix_closure.proofs.DueCauses.{ArrivesBy, cause_of}
 use Rattle.ix_closure.proofs.Known.{edge_known, arrival_known}
 use Rattle.ix_closure.proofs.Logs.{IsBeside, has_not}
 use Rattle.ix_closure.proofs.Tidied.{HasCause, IsSingle, IsKnown}
-use Rattle.ix_closure.proofs.Times.{count-append, count-cons, times-some, times-none, times-one, same_step-refl, same_step-true}
+use Rattle.ix_closure.proofs.Times.{count-append, times-one, same_step-refl, same_step-true}
 
 module _ (plan : Parts) (planned : IsPlanned plan) (old new : State) (n : ℕ) (log : List Fact) (s l p : ℕ) (more : List Owed)
     (done : IsDone plan old new n log (Claim s l p) more) (tidy : IsTidy plan old) where

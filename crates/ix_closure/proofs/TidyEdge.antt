@@ -1,30 +1,24 @@
 -- An edge keeps a state tidy.
-use Rattle.std.proofs.Common.{◌≡◌, ℕ, ◌+◌, ◌<◌, Bool, true, false, cond, not, List, [], ◌∷◌, ◌++◌, length, Contains, map, Option, refl, sym, ap, ◌∙◌, subst, ◌⊎◌, inl, inr, arith, true≢false}
+use Rattle.std.proofs.Common.{◌≡◌, ℕ, ◌+◌, ◌<◌, Bool, true, false, cond, not, List, [], ◌++◌, length, Contains, map, refl, sym, ap, ◌∙◌, subst, ◌⊎◌, inl, inr, arith}
 use Rattle.std.proofs.lemmas.List.Elements.{Contains-append_cases}
-use Rattle.ix_model.specs.declared.grammar.Mark.{Mark}
 use Rattle.ix_model.specs.declared.rules.Sym.TheVariants as sy
 use Rattle.ix_model.specs.declared.sub.Sub.{Sub}
 use Rattle.ix_model.specs.Parts.{Parts}
 use Rattle.ix_model.specs.Planned.{IsPlanned}
-use Rattle.ix_model.specs.SlotPlaces.{HasNext, IsFirst}
 use Rattle.ix_model.proofs.ClosedWithin.{edge_within}
-use Rattle.ix_model.proofs.SlotReaders.{first_reads}
-use Rattle.ix_cluster.specs.declared.cluster.Edge.{Edge as Arc}
 use Rattle.ix_cluster.specs.declared.fact.Fact.{Fact}
 use Rattle.ix_cluster.specs.declared.fact.Fact.TheVariants as fact
 use Rattle.ix_cluster.specs.Facts.{has, put}
-use Rattle.ix_cluster.specs.Firsts.{firsts_of, is_at_end}
+use Rattle.ix_cluster.specs.Firsts.{firsts_of}
 use Rattle.ix_cluster.specs.Lists.{cluster}
-use Rattle.ix_cluster.specs.Steps.{empty_sub, ends_in, after_call}
-use Rattle.ix_cluster.proofs.Beginning.{firsts_are, ends_at_once}
-use Rattle.ix_cluster.proofs.Calls.{IsBegun, call-there}
-use Rattle.ix_cluster.proofs.Counts.{either}
-use Rattle.ix_cluster.proofs.Members.{none_has, put-keeps, Contains-has}
+use Rattle.ix_cluster.specs.Steps.{ends_in, after_call}
+use Rattle.ix_cluster.proofs.Beginning.{firsts_are}
+use Rattle.ix_cluster.proofs.Calls.{call-there}
+use Rattle.ix_cluster.proofs.Members.{none_has, put-keeps}
 use Rattle.ix_closure.specs.declared.owed.Owed.{Owed}
-use Rattle.ix_closure.specs.declared.owed.Owed.TheVariants.{Claim, Edge, End, Arrive}
+use Rattle.ix_closure.specs.declared.owed.Owed.TheVariants.{Claim, Edge, End}
 use Rattle.ix_closure.specs.Balance.{IsBalanced}
 use Rattle.ix_closure.specs.Due.{IsRecorded}
-use Rattle.ix_closure.specs.Events.{log_after}
 use Rattle.ix_closure.specs.Follows.{sub_of, arrival, claims_at}
 use Rattle.ix_closure.specs.Quantity.{times}
 use Rattle.ix_closure.specs.Seen.{State}
@@ -56,6 +50,7 @@ module _ (plan : Parts) (planned : IsPlanned plan) (old new : State) (n : ℕ) (
   no_edge : has log (fact.Edge r k s l) ≡ false
   no_edge = has_not log (fact.Edge r k s l) (λ c. unmet (done.moves.back (fact.Edge r k s l) c))
 
+  -- after it its cluster is called
   called : IsRecorded new.banks (fact.Called r k)
   called =
       done.moves.made (fact.Called r k)
@@ -72,16 +67,20 @@ module _ (plan : Parts) (planned : IsPlanned plan) (old new : State) (n : ℕ) (
     ]
   ]
 
-  -- the steps that the edge brings
+  -- the arrival of the edge's slot behind an end
+  abbrev behind : ℕ → Owed
+  behind e = arrival k e (record { slot = s; left = l })
+
+  -- the steps that the edge brings: claims, where it calls its cluster, and the arrivals behind the ends that it meets
   abbrev claims : List Owed
   claims = cond (not (has log (fact.Called r k))) (claims_at k (firsts_of plan r)) []
 
   abbrev met : List Owed
-  met = map (λ e. arrival k e (record { slot = s; left = l })) (ends_in log (cluster r k))
+  met = map behind (ends_in log (cluster r k))
 
   brings : more ≡ claims ++ met
   brings =
-      subst (λ b. more ≡ cond (cond b false (not (has log (fact.Called r k)))) (claims_at k (firsts_of plan r)) [] ++ map (λ e. arrival k e (record { slot = s; left = l })) (cond b [] (ends_in log (cluster r k)))) no_edge done.follows
+      subst (λ b. more ≡ cond (cond b false (not (has log (fact.Called r k)))) (claims_at k (firsts_of plan r)) [] ++ map behind (cond b [] (ends_in log (cluster r k)))) no_edge done.follows
 
   -- a claim that it brings is of a cluster that was not called
   record IsOpened (x : Owed) : Type 0 where
@@ -110,7 +109,7 @@ module _ (plan : Parts) (planned : IsPlanned plan) (old new : State) (n : ℕ) (
       let desc = claim_known plan planned old tidy.balanced o.first k k (subst (IsKnown old) (sym o.is) known) in
       has_none log (fact.Called r k) o.fresh (done.moves.here (fact.Called r k) refl (tidy.first_descs o.first k k r desc (firsts_are plan planned r o.first there o.among)))
 
-  arrival_new : (e : ℕ) → ¬ (IsKnown old (arrival k e (record { slot = s; left = l })))
+  arrival_new : (e : ℕ) → ¬ (IsKnown old (behind e))
   arrival_new e known =
       let next = edge_next plan planned r k s l done.closed in
       unmet (arrival_known plan planned old tidy (sub_of (s + 1) l k e) known s (sy.Rule r next.0) next.1).0
@@ -119,11 +118,11 @@ module _ (plan : Parts) (planned : IsPlanned plan) (old new : State) (n : ℕ) (
   not_both : (x : Owed) → Contains claims x → Contains met x → ⊥
   not_both x c m =
       let claim = (opened_from x c).is in
-      let arrives = (map_from (λ e. arrival k e (record { slot = s; left = l })) (ends_in log (cluster r k)) x m).2 in
+      let arrives = (map_from behind (ends_in log (cluster r k)) x m).2 in
       cc
 
   -- ends with one arrival are the same
-  same_end : (a b : ℕ) → arrival k a (record { slot = s; left = l }) ≡ arrival k b (record { slot = s; left = l }) → a ≡ b
+  same_end : (a b : ℕ) → behind a ≡ behind b → a ≡ b
   same_end a b h = let same : sub_of (s + 1) l k a ≡ sub_of (s + 1) l k b = cc in ap (λ (u : Sub). u.right) same
 
   times_more : (x : Owed) → times more x ≡ times claims x + times met x
@@ -133,15 +132,15 @@ module _ (plan : Parts) (planned : IsPlanned plan) (old new : State) (n : ℕ) (
   brought x single c = elim (Contains-append_cases claims met x (subst (λ steps. Contains steps x) brings c)) [
     | inl h ↦ (omega (arith, times_more x, (opened_from x h).once, times-none met x (not_both x h)), claim_new x (opened_from x h))
     | inr h ↦
-        let e = map_from (λ e. arrival k e (record { slot = s; left = l })) (ends_in log (cluster r k)) x h in
-        let once = times-once met x (once_map (λ e. arrival k e (record { slot = s; left = l })) (ends_in log (cluster r k)) (λ a b i j w. same_end a b w) (ends_once (cluster r k) log done.once)) h in
+        let e = map_from behind (ends_in log (cluster r k)) x h in
+        let once = times-once met x (once_map behind (ends_in log (cluster r k)) (λ a b i j. same_end a b) (ends_once (cluster r k) log done.once)) h in
         (omega (arith, times_more x, once, times-none claims x (λ i. not_both x i h)), λ known. arrival_new e.0 (subst (IsKnown old) (sym e.2) known))
   ]
 
   no_end : (r' k' e' : ℕ) → ¬ (Contains more (End r' k' e'))
   no_end r' k' e' c = elim (Contains-append_cases claims met (End r' k' e') (subst (λ steps. Contains steps (End r' k' e')) brings c)) [
     | inl h ↦ let claim = (opened_from (End r' k' e') h).is in cc
-    | inr h ↦ let arrives = (map_from (λ e. arrival k e (record { slot = s; left = l })) (ends_in log (cluster r k)) (End r' k' e') h).2 in cc
+    | inr h ↦ let arrives = (map_from behind (ends_in log (cluster r k)) (End r' k' e') h).2 in cc
   ]
 
   pub edge_tidy : IsBalanced plan new → IsTidy plan new

@@ -1,11 +1,9 @@
 -- An end keeps a state tidy.
-use Rattle.std.proofs.Common.{◌≡◌, ℕ, ◌+◌, Bool, true, false, cond, List, [], ◌∷◌, Contains, map, Option, refl, sym, ap, ◌∙◌, subst, ◌⊎◌, inl, inr, arith}
-use Rattle.ix_model.specs.declared.grammar.Mark.{Mark}
+use Rattle.std.proofs.Common.{◌≡◌, ℕ, ◌+◌, Bool, true, false, cond, List, [], Contains, map, refl, sym, ap, ◌∙◌, subst, ◌⊎◌, inl, inr, arith}
 use Rattle.ix_model.specs.declared.rules.Sym.TheVariants as sy
 use Rattle.ix_model.specs.declared.sub.Sub.{Sub}
 use Rattle.ix_model.specs.Parts.{Parts}
 use Rattle.ix_model.specs.Planned.{IsPlanned}
-use Rattle.ix_model.specs.SlotPlaces.{HasNext}
 use Rattle.ix_cluster.specs.declared.cluster.Edge.{Edge as Arc}
 use Rattle.ix_cluster.specs.declared.fact.Fact.{Fact}
 use Rattle.ix_cluster.specs.declared.fact.Fact.TheVariants as fact
@@ -14,7 +12,7 @@ use Rattle.ix_cluster.specs.Lists.{cluster}
 use Rattle.ix_cluster.specs.Steps.{edges_in}
 use Rattle.ix_cluster.proofs.Members.{none_has}
 use Rattle.ix_closure.specs.declared.owed.Owed.{Owed}
-use Rattle.ix_closure.specs.declared.owed.Owed.TheVariants.{Claim, Edge, End, Arrive}
+use Rattle.ix_closure.specs.declared.owed.Owed.TheVariants.{End}
 use Rattle.ix_closure.specs.Balance.{IsBalanced}
 use Rattle.ix_closure.specs.Due.{IsRecorded}
 use Rattle.ix_closure.specs.Follows.{sub_of, arrival}
@@ -27,7 +25,7 @@ use Rattle.ix_closure.proofs.DueCauses.{edge_next}
 use Rattle.ix_closure.proofs.Known.{arrival_known}
 use Rattle.ix_closure.proofs.Logs.{IsBeside, has_none}
 use Rattle.ix_closure.proofs.Members.{map_from}
-use Rattle.ix_closure.proofs.Once.{IsOnceEach, once_map}
+use Rattle.ix_closure.proofs.Once.{once_map}
 use Rattle.ix_closure.proofs.Recording.{recorded_closed}
 use Rattle.ix_closure.proofs.Tidied.{HasCause, IsSingle, IsKnown}
 use Rattle.ix_closure.proofs.Times.{times-once}
@@ -49,9 +47,6 @@ module _ (plan : Parts) (planned : IsPlanned plan) (old new : State) (n : ℕ) (
     | inr w ↦ elim w [ inl q ↦ inr (subst (HasCause plan new) q tt) | inr b ↦ absurd b ]
   ]
 
-  met : List Arc
-  met = edges_in log (cluster r k)
-
   -- what a new end meets did not arrive before
   arrival_new : has log (fact.End r k e) ≡ false → (a : Arc) → Contains (edges_in log (cluster r k)) a → ¬ (IsKnown old (arrival k e a))
   arrival_new fresh a c known =
@@ -66,11 +61,10 @@ module _ (plan : Parts) (planned : IsPlanned plan) (old new : State) (n : ℕ) (
       by true q w = absurd (none_has x (subst (λ steps. Contains steps x) w c))
       by false q w =
           let there = subst (λ steps. Contains steps x) w c in
-          let a = map_from (arrival k e) (edges_in log (cluster r k)) x there in
-          (
+          let a = map_from (arrival k e) (edges_in log (cluster r k)) x there in (
             ap (λ steps. times steps x) w ∙
-            times-once (map (arrival k e) (edges_in log (cluster r k))) x
-            (once_map (arrival k e) (edges_in log (cluster r k)) (λ a b h i. same_arrival k e a b) (edges_once (cluster r k) log done.once)) there,
+                times-once (map (arrival k e) (edges_in log (cluster r k))) x
+                (once_map (arrival k e) (edges_in log (cluster r k)) (λ a b h i. same_arrival k e a b) (edges_once (cluster r k) log done.once)) there,
             λ known. arrival_new q a.0 a.1 (subst (IsKnown old) (sym a.2) known),
           )
 

@@ -1,12 +1,11 @@
 -- An event keeps a state tidy, and the opening is tidy.
-use Rattle.std.proofs.Common.{◌≡◌, ◌==◌, ℕ, ◌+◌, ◌<◌, ◌≤◌, Bool, true, false, cond, List, [], ◌∷◌, length, Contains, Some, slice_get, map, refl, sym, ap, ◌∙◌, subst, ◌⊎◌, inl, inr, arith}
+use Rattle.std.proofs.Common.{◌≡◌, ◌==◌, ℕ, ◌<◌, ◌≤◌, Bool, true, false, cond, List, [], length, Contains, sym, ap, ◌∙◌, subst, ◌⊎◌, inl, inr, arith}
 use Rattle.std.specs.List.{range_with_len}
-use Rattle.ix_model.specs.declared.sub.Sub.{Sub}
 use Rattle.ix_model.specs.Parts.{Parts}
 use Rattle.ix_model.specs.Planned.{IsPlanned}
 use Rattle.ix_cluster.specs.declared.fact.Fact.{Fact}
 use Rattle.ix_cluster.specs.declared.fact.Fact.TheVariants as fact
-use Rattle.ix_cluster.specs.Banks.{opening, opening_bank, opening_log, facts_of}
+use Rattle.ix_cluster.specs.Banks.{opening, opening_bank, facts_of}
 use Rattle.ix_cluster.specs.Firsts.{firsts_of}
 use Rattle.ix_cluster.specs.Homes.{home}
 use Rattle.ix_cluster.specs.Seen.{Bank}
@@ -23,7 +22,6 @@ use Rattle.ix_closure.specs.Quantity.{times, givers}
 use Rattle.ix_closure.specs.Seen.{State}
 use Rattle.ix_closure.specs.Tidy.{IsTidy, IsOwedOnce}
 use Rattle.ix_closure.proofs.Done.{IsDone, event_done}
-use Rattle.ix_closure.proofs.Known.{claim_recorded}
 use Rattle.ix_closure.proofs.Members.{map_from, flat_has, flat_from}
 use Rattle.ix_closure.proofs.Tidied.{HasCause, IsSingle, tidy_by, begun_cause}
 use Rattle.ix_closure.proofs.TidyArrive.{arrive_tidy}
@@ -64,9 +62,9 @@ module _ (plan : Parts) (planned : IsPlanned plan) (state : State) (count : ℕ)
 
   caused : (f : Fact) → IsRecorded state.banks f → HasCause plan state f
   caused f h = elim (opened f h).0 [
-      inl e ↦ subst (HasCause plan state) e tt
+    | inl e ↦ subst (HasCause plan state) e tt
     | inr begun ↦ begun_cause plan planned state 0 0 first_there (opened f h).1 f begun
-    ]
+  ]
     where
       first_there : 0 < length plan.rules.flats
       first_there = omega (arith, planned.first_named, planned.names_within)

@@ -1,9 +1,6 @@
 -- How often a step is owed.
-use Rattle.std.proofs.Common.{◌≡◌, ℕ, zero, suc, ◌+◌, ◌<◌, ◌≤◌, Bool, true, false, cond, List, [], ◌∷◌, ◌++◌, Contains, remove, count_by, Some, slice_get, refl, sym, ap, ◌∙◌, subst, ◌⊎◌, inl, inr, arith}
+use Rattle.std.proofs.Common.{◌≡◌, ℕ, zero, suc, ◌+◌, ◌≤◌, Bool, true, false, cond, List, [], ◌∷◌, ◌++◌, Contains, remove, count_by, Some, slice_get, refl, sym, ap, subst, ◌⊎◌, inl, inr, arith}
 use Rattle.std.proofs.lemmas.List.Sums.{sum_by-cons, sum_by-append}
-use Rattle.ix_model.specs.declared.sub.Sub.{Sub}
-use Rattle.ix_cluster.specs.declared.fact.Fact.{Fact}
-use Rattle.ix_cluster.specs.declared.fact.Fact.TheVariants as fact
 use Rattle.ix_cluster.proofs.Counts.{either}
 use Rattle.ix_cluster.proofs.FactLemmas.{same_fact-true, same_fact-refl}
 use Rattle.ix_cluster.proofs.Members.{either_has, none_has, one_has, rest_has, first_has}
@@ -14,9 +11,6 @@ use Rattle.ix_closure.specs.Quantity.{same_step, times}
 use Rattle.ix_closure.proofs.Once.{IsOnceEach}
 
 module _ {X : Type 0} (p : X → Bool) where
-  one_or_none : X → ℕ
-  one_or_none x = cond (p x) 1 0
-
   pub count-cons : (x : X) (xs : List X) → count_by p (x ∷ xs) ≡ cond (p x) 1 0 + count_by p xs
   count-cons x xs = sum_by-cons (λ y. cond (p y) 1 0) x xs
 
@@ -33,9 +27,9 @@ module _ {X : Type 0} (p : X → Bool) where
   pub count-some : (xs : List X) (x : X) → p x ≡ true → Contains xs x → 1 ≤ count_by p xs
   count-some [] x e c = absurd (none_has x c)
   count-some (y ∷ ys) x e c = elim (either_has y ys x c) [
-      inl w ↦ omega (arith, count-cons y ys, ap {B = ℕ} (λ z. cond (p z) 1 0) w, ap {B = ℕ} (λ b. cond b 1 0) e)
+    | inl w ↦ omega (arith, count-cons y ys, ap {B = ℕ} (λ z. cond (p z) 1 0) w, ap {B = ℕ} (λ b. cond b 1 0) e)
     | inr r ↦ omega (arith, count-cons y ys, count-some ys x e r)
-    ]
+  ]
 
   -- where none passes none is counted
   pub count-none : (xs : List X) → ((x : X) → Contains xs x → p x ≡ false) → count_by p xs ≡ 0
@@ -94,10 +88,10 @@ pub times-once : (xs : List Owed) (x : Owed) → IsOnceEach xs → Contains xs x
 unfolding IsOnceEach
 times-once [] x h c = absurd (none_has x c)
 times-once (y ∷ ys) x h c = elim (either_has y ys x c) [
-    inl e ↦
+  | inl e ↦
       let none = times-none ys x (λ r. h.0 (subst (Contains ys) (sym e) r)) in
       omega (arith, count-cons (same_step x) y ys, none, ap {B = ℕ} (λ z. cond (same_step x z) 1 0) e, ap {B = ℕ} (λ b. cond b 1 0) (same_step-refl x))
   | inr r ↦
       let other = same_step-false x y (λ e. h.0 (subst (Contains ys) e r)) in
       omega (arith, count-cons (same_step x) y ys, times-once ys x h.1 r, ap {B = ℕ} (λ b. cond b 1 0) other)
-  ]
+]
