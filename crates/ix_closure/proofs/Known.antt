@@ -29,6 +29,7 @@ module _ (plan : Parts) (planned : IsPlanned plan) (state : State) where
       recorded_by state.banks at.0 at.1 (fact.Desc s l p) at.2
       (subst (λ (log : List Fact). Contains log (fact.Desc s l p)) (take-append-drop place.0 at.1.log) (Contains-append_left (take place.0 at.1.log) (drop place.0 at.1.log) (fact.Desc s l p) before))
 
+  -- a claim, an edge
   pub claim_known : IsBalanced plan state → (s l p : ℕ) → IsKnown state (Claim s l p) → IsRecorded state.banks (fact.Desc s l p)
   claim_known balanced s l p known = elim known [
     | inl c ↦ cause_of plan planned (IsRecorded state.banks) (Claim s l p) (balanced.caused (Claim s l p) c)
@@ -41,7 +42,7 @@ module _ (plan : Parts) (planned : IsPlanned plan) (state : State) where
     | inr h ↦ tidy.edges r k s l h
   ]
 
-  -- an arrival, by the symbol before its slot's dot
+  -- and an arrival, by the symbol before its slot's dot
   pub arrival_known : IsTidy plan state → (sub : Sub) → IsKnown state (Arrive sub) → (s : ℕ) (x : Sym) → HasNext plan s sub.slot x → ArrivesBy plan planned (IsRecorded state.banks) s sub.left sub.pivot sub.right x
   arrival_known tidy sub known s x next = (cause_of plan planned (IsRecorded state.banks) (Arrive sub) due).1 s x next
     where

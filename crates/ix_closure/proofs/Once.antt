@@ -43,7 +43,7 @@ module _ {X Y : Type 0} where
       by None e rest = rest
       by (Some y) e rest = ((λ c. let p = filter_from f xs y c in h.0 (subst (Contains xs) (apart p.0 x y p.2 e) p.1)), rest)
 
--- the numbers of a range are between its ends
+-- the numbers of a range are between its ends, and each stands there once
 range_from : (n len x : ℕ) → Contains (range_with_len n len) x → n ≤ x
 range_from n zero x c = absurd (none_has x c)
 range_from n (suc len) x c = elim (either_has n (range_with_len (n + 1) len) x c) [

@@ -25,9 +25,11 @@ use Rattle.ix_closure.proofs.Times.{times-one}
 
 module _ (plan : Parts) (planned : IsPlanned plan) (old new : State) (n : ℕ) (log : List Fact) (sub : Sub) (more : List Owed)
     (done : IsDone plan old new n log (Arrive sub) more) (tidy : IsTidy plan old) where
+  -- the subtree is recorded
   recorded : IsRecorded new.banks (fact.Part sub)
   recorded = done.moves.made (fact.Part sub) (put-keeps (put log (fact.Part sub)) (fact.Desc sub.slot sub.left sub.right) (fact.Part sub) (put-there log (fact.Part sub)))
 
+  -- what it records has its cause
   caused : (f : Fact) → IsRecorded new.banks f → IsRecorded old.banks f ⊎ HasCause plan new f
   unfolding IsBeside
   caused f h = elim (newly plan planned old new n log (Arrive sub) more done f h) [
@@ -45,6 +47,7 @@ module _ (plan : Parts) (planned : IsPlanned plan) (old new : State) (n : ℕ) (
   claim_new : has log (fact.Desc sub.slot sub.left sub.right) ≡ false → ¬ (IsKnown old (Claim sub.slot sub.left sub.right))
   claim_new e known = has_none log (fact.Desc sub.slot sub.left sub.right) e (done.moves.here (fact.Desc sub.slot sub.left sub.right) refl (claim_known plan planned old tidy.balanced sub.slot sub.left sub.right known))
 
+  -- what it brings is owed once, and was not known
   brought : (x : Owed) → IsSingle x → Contains more x → (times more x ≡ 1) × ¬ (IsKnown old x)
   brought x single c = by (has log (fact.Desc sub.slot sub.left sub.right)) refl done.follows
     where
@@ -56,6 +59,7 @@ module _ (plan : Parts) (planned : IsPlanned plan) (old new : State) (n : ℕ) (
             λ known. claim_new e (subst (IsKnown old) (sym (one_has (Claim sub.slot sub.left sub.right) x one)) known),
           )
 
+  -- it brings no end
   no_end : (r k e : ℕ) → ¬ (Contains more (End r k e))
   no_end r k e c = by (has log (fact.Desc sub.slot sub.left sub.right)) done.follows
     where

@@ -47,9 +47,11 @@ module _ (plan : Parts) (planned : IsPlanned plan) (old new : State) (n : ℕ) (
       subst (λ c. FollowsClaim plan (cond true (cond c Taken Mine) Unknown) s l p more) no_claim
       (subst (λ d. FollowsClaim plan (cond d (cond (has log (fact.Claim s l p)) Taken Mine) Unknown) s l p more) descriptor done.follows)
 
+  -- and it alone is recorded
   recorded : log_after plan log (Claim s l p) ≡ log ++ fact.Claim s l p ∷ []
   recorded = ap (λ d. cond d (put log (fact.Claim s l p)) log) descriptor ∙ put-new log (fact.Claim s l p) no_claim
 
+  -- what it records has its cause
   caused : (f : Fact) → IsRecorded new.banks f → IsRecorded old.banks f ⊎ HasCause plan new f
   unfolding IsBeside
   caused f h = elim (newly plan planned old new n log (Claim s l p) more done f h) [
@@ -57,7 +59,7 @@ module _ (plan : Parts) (planned : IsPlanned plan) (old new : State) (n : ℕ) (
     | inr w ↦ elim w [ inl e ↦ inr (subst (HasCause plan new) e tt) | inr b ↦ absurd b ]
   ]
 
-  -- what the claim brings was not known
+  -- what the claim brings is owed once, and was not known
   brought : (steps : List Owed) → FollowsDesc plan s l p steps → (x : Owed) → IsSingle x → Contains steps x → (times steps x ≡ 1) × ¬ (IsKnown old x)
   brought steps (passes x after e next t) o single c = (
     times-one (Arrive (sub_of after l p e)) o c,
@@ -98,6 +100,7 @@ module _ (plan : Parts) (planned : IsPlanned plan) (old new : State) (n : ℕ) (
           (omega (arith, ap {B = ℕ} (λ b. cond b 1 0) own, ap {B = ℕ} (λ b. cond b 1 0) (same_step-refl (End r' l p))))
       by (inr f) = omega (arith, ap {B = ℕ} (λ b. cond b 1 0) f)
 
+  -- so each end that is owed has claims enough that give it
   enough : (r k e : ℕ) → times more (End r k e) + givers plan (facts_of old.banks) r k e ≤ givers plan (facts_of new.banks) r k e
   enough r k e =
       omega (

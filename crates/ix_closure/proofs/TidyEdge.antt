@@ -57,6 +57,7 @@ module _ (plan : Parts) (planned : IsPlanned plan) (old new : State) (n : ℕ) (
       (subst (λ b. Contains (cond b log (put (after_call plan log r k) (fact.Edge r k s l))) (fact.Called r k)) (sym no_edge)
       (put-keeps (after_call plan log r k) (fact.Edge r k s l) (fact.Called r k) (call-there plan log r k)))
 
+  -- what it records has its cause
   caused : (f : Fact) → IsRecorded new.banks f → IsRecorded old.banks f ⊎ HasCause plan new f
   unfolding IsBeside
   caused f h = elim (newly plan planned old new n log (Edge r k s l) more done f h) [
@@ -128,6 +129,7 @@ module _ (plan : Parts) (planned : IsPlanned plan) (old new : State) (n : ℕ) (
   times_more : (x : Owed) → times more x ≡ times claims x + times met x
   times_more x = ap (λ steps. times steps x) brings ∙ times-append claims met x
 
+  -- what it brings is owed once, and was not known
   brought : (x : Owed) → IsSingle x → Contains more x → (times more x ≡ 1) × ¬ (IsKnown old x)
   brought x single c = elim (Contains-append_cases claims met x (subst (λ steps. Contains steps x) brings c)) [
     | inl h ↦ (omega (arith, times_more x, (opened_from x h).once, times-none met x (not_both x h)), claim_new x (opened_from x h))
@@ -137,6 +139,7 @@ module _ (plan : Parts) (planned : IsPlanned plan) (old new : State) (n : ℕ) (
         (omega (arith, times_more x, once, times-none claims x (λ i. not_both x i h)), λ known. arrival_new e.0 (subst (IsKnown old) (sym e.2) known))
   ]
 
+  -- it brings no end
   no_end : (r' k' e' : ℕ) → ¬ (Contains more (End r' k' e'))
   no_end r' k' e' c = elim (Contains-append_cases claims met (End r' k' e') (subst (λ steps. Contains steps (End r' k' e')) brings c)) [
     | inl h ↦ let claim = (opened_from (End r' k' e') h).is in cc

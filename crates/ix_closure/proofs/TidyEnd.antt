@@ -40,6 +40,7 @@ same_arrival k e a b h =
 
 module _ (plan : Parts) (planned : IsPlanned plan) (old new : State) (n : ℕ) (log : List Fact) (r k e : ℕ) (more : List Owed)
     (done : IsDone plan old new n log (End r k e) more) (tidy : IsTidy plan old) where
+  -- what it records has its cause
   caused : (f : Fact) → IsRecorded new.banks f → IsRecorded old.banks f ⊎ HasCause plan new f
   unfolding IsBeside
   caused f h = elim (newly plan planned old new n log (End r k e) more done f h) [
@@ -54,6 +55,7 @@ module _ (plan : Parts) (planned : IsPlanned plan) (old new : State) (n : ℕ) (
       has_none log (fact.End r k e) fresh
       (done.moves.here (fact.End r k e) refl (arrival_known plan planned old tidy (sub_of (a.slot + 1) a.left k e) known a.slot (sy.Rule r next.0) next.1).1)
 
+  -- what it brings is owed once, and was not known
   brought : (x : Owed) → IsSingle x → Contains more x → (times more x ≡ 1) × ¬ (IsKnown old x)
   brought x single c = by (has log (fact.End r k e)) refl done.follows
     where
@@ -68,6 +70,7 @@ module _ (plan : Parts) (planned : IsPlanned plan) (old new : State) (n : ℕ) (
             λ known. arrival_new q a.0 a.1 (subst (IsKnown old) (sym a.2) known),
           )
 
+  -- it brings no end
   no_end : (r' k' e' : ℕ) → ¬ (Contains more (End r' k' e'))
   no_end r' k' e' c =
       let a = map_from (arrival k e) (cond (has log (fact.End r k e)) [] (edges_in log (cluster r k))) (End r' k' e') (subst (λ steps. Contains steps (End r' k' e')) done.follows c) in

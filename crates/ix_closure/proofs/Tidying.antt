@@ -60,6 +60,7 @@ module _ (plan : Parts) (planned : IsPlanned plan) (state : State) (count : ℕ)
         flat_has (λ (b : Bank). b.log) state.banks bank (fact.Called 0 0) there (subst (λ log. Contains log (fact.Called 0 0)) (sym e) (call-there plan [] 0 0)),
       )
 
+  -- so it has its cause
   caused : (f : Fact) → IsRecorded state.banks f → HasCause plan state f
   caused f h = elim (opened f h).0 [
     | inl e ↦ subst (HasCause plan state) e tt
@@ -69,6 +70,7 @@ module _ (plan : Parts) (planned : IsPlanned plan) (state : State) (count : ℕ)
       first_there : 0 < length plan.rules.flats
       first_there = omega (arith, planned.first_named, planned.names_within)
 
+  -- and no claim is recorded
   unclaimed : (s l p : ℕ) → ¬ (IsRecorded state.banks (fact.Claim s l p))
   unfolding IsBegun
   unclaimed s l p h = by (opened (fact.Claim s l p) h).0
