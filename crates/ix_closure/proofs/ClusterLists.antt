@@ -11,7 +11,7 @@ use Rattle.ix_cluster.specs.Steps.{edge_of, end_of, edges_in, ends_in}
 use Rattle.ix_cluster.proofs.FactLemmas.{same_fact-refl}
 use Rattle.ix_cluster.proofs.ListLemmas.{same_cluster-true}
 use Rattle.ix_closure.proofs.Members.{filter_from}
-use Rattle.ix_closure.proofs.Once.{IsOnceEach, once_distinct, once_filter}
+use Rattle.ix_closure.proofs.OnceEach.{IsOnceEach, once_distinct, once_filter}
 
 module _ (c : Cluster) where
   -- a fact that gives the cluster an edge is that edge

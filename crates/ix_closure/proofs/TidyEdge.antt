@@ -30,7 +30,7 @@ use Rattle.ix_closure.proofs.FirstsOnce.{firsts_once}
 use Rattle.ix_closure.proofs.Known.{claim_known, arrival_known}
 use Rattle.ix_closure.proofs.Logs.{IsBeside, has_none, has_not}
 use Rattle.ix_closure.proofs.Members.{map_from}
-use Rattle.ix_closure.proofs.Once.{IsOnceEach, once_map}
+use Rattle.ix_closure.proofs.OnceEach.{IsOnceEach, once_map}
 use Rattle.ix_closure.proofs.Tidied.{HasCause, IsSingle, IsKnown, begun_cause}
 use Rattle.ix_closure.proofs.Times.{times-append, times-none, times-once}
 

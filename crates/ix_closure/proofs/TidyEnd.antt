@@ -25,7 +25,7 @@ use Rattle.ix_closure.proofs.DueCauses.{edge_next}
 use Rattle.ix_closure.proofs.Known.{arrival_known}
 use Rattle.ix_closure.proofs.Logs.{IsBeside, has_none}
 use Rattle.ix_closure.proofs.Members.{map_from}
-use Rattle.ix_closure.proofs.Once.{once_map}
+use Rattle.ix_closure.proofs.OnceEach.{once_map}
 use Rattle.ix_closure.proofs.Recording.{recorded_closed}
 use Rattle.ix_closure.proofs.Tidied.{HasCause, IsSingle, IsKnown}
 use Rattle.ix_closure.proofs.Times.{times-once}

@@ -8,7 +8,7 @@ use Rattle.ix_closure.specs.declared.owed.Owed.{Owed}
 use Rattle.ix_closure.specs.declared.owed.Owed.TheVariants.{Claim, Edge, End, Arrive}
 use Rattle.ix_closure.specs.Follows.{fact_of}
 use Rattle.ix_closure.specs.Quantity.{same_step, times}
-use Rattle.ix_closure.proofs.Once.{IsOnceEach}
+use Rattle.ix_closure.proofs.OnceEach.{IsOnceEach}
 
 module _ {X : Type 0} (p : X → Bool) where
   pub count-cons : (x : X) (xs : List X) → count_by p (x ∷ xs) ≡ cond (p x) 1 0 + count_by p xs
