@@ -1,0 +1,58 @@
+-- What a step records.
+use Rattle.std.proofs.Common.{◌≡◌, Bool, true, false, cond, List, Contains, sym, ◌∙◌, ◌⊎◌, inl, inr, true≢false}
+use Rattle.ix_model.specs.Parts.{Parts}
+use Rattle.ix_cluster.specs.declared.fact.Fact.{Fact}
+use Rattle.ix_cluster.specs.declared.fact.Fact.TheVariants as fact
+use Rattle.ix_cluster.specs.Facts.{has, put}
+use Rattle.ix_cluster.specs.Firsts.{firsts_of}
+use Rattle.ix_cluster.specs.Steps.{after_call}
+use Rattle.ix_cluster.proofs.Calls.{IsBegun, call-from}
+use Rattle.ix_cluster.proofs.Counts.{either}
+use Rattle.ix_cluster.proofs.Members.{put-from, has-Contains, Contains-has}
+use Rattle.ix_closure.specs.declared.owed.Owed.{Owed}
+use Rattle.ix_closure.specs.declared.owed.Owed.TheVariants.{Claim, Edge, End, Arrive}
+use Rattle.ix_closure.specs.Events.{log_after}
+use Rattle.ix_closure.specs.Follows.{fact_of}
+
+-- where the test of a log fails it has no such fact
+pub has_none : (log : List Fact) (f : Fact) → has log f ≡ false → ¬ (Contains log f)
+has_none log f e c = true≢false (sym (has-Contains log f c) ∙ e)
+
+pub has_not : (log : List Fact) (f : Fact) → ¬ (Contains log f) → has log f ≡ false
+has_not log f none = by (either (has log f))
+  where
+    by : (has log f ≡ true) ⊎ (has log f ≡ false) → has log f ≡ false
+    by (inl t) = absurd (none (Contains-has log f t))
+    by (inr e) = e
+
+-- the fact is one that the step records beside its own: what a call records, or the descriptor of a subtree
+unfoldable pub IsBeside : Parts → List Fact → Owed → Fact → Type 0
+IsBeside plan log (Claim s l p) f = ⊥
+IsBeside plan log (Edge r k s l) f = (has log (fact.Called r k) ≡ false) × ((fact.Called r k ≡ f) ⊎ IsBegun plan k (firsts_of plan r) f)
+IsBeside plan log (End r k e) f = ⊥
+IsBeside plan log (Arrive sub) f = fact.Desc sub.slot sub.left sub.right ≡ f
+
+-- what a log has after a step it had before, or it is the step's own fact, or one beside it
+pub log_from : (plan : Parts) (log : List Fact) (o : Owed) (f : Fact) → Contains (log_after plan log o) f → Contains log f ⊎ ((fact_of o ≡ f) ⊎ IsBeside plan log o f)
+unfolding IsBeside
+log_from plan log (Claim s l p) f h = by (has log (fact.Desc s l p)) h
+  where
+    by : (b : Bool) → Contains (cond b (put log (fact.Claim s l p)) log) f → Contains log f ⊎ ((fact.Claim s l p ≡ f) ⊎ ⊥)
+    by true c = elim (put-from log (fact.Claim s l p) f c) [ inl o ↦ inl o | inr e ↦ inr (inl e) ]
+    by false c = inl c
+log_from plan log (Edge r k s l) f h = by (has log (fact.Edge r k s l)) h
+  where
+    called : Type 0
+    called = (has log (fact.Called r k) ≡ false) × ((fact.Called r k ≡ f) ⊎ IsBegun plan k (firsts_of plan r) f)
+
+    by : (b : Bool) → Contains (cond b log (put (after_call plan log r k) (fact.Edge r k s l))) f → Contains log f ⊎ ((fact.Edge r k s l ≡ f) ⊎ called)
+    by true c = inl c
+    by false c = elim (put-from (after_call plan log r k) (fact.Edge r k s l) f c) [
+      | inl o ↦ elim (call-from plan log r k f o) [ inl w ↦ inl w | inr n ↦ inr (inr n) ]
+      | inr e ↦ inr (inl e)
+    ]
+log_from plan log (End r k e) f h = elim (put-from log (fact.End r k e) f h) [ inl o ↦ inl o | inr w ↦ inr (inl w) ]
+log_from plan log (Arrive sub) f h = elim (put-from (put log (fact.Part sub)) (fact.Desc sub.slot sub.left sub.right) f h) [
+  | inl o ↦ elim (put-from log (fact.Part sub) f o) [ inl w ↦ inl w | inr e ↦ inr (inl e) ]
+  | inr e ↦ inr (inr e)
+]

@@ -1,0 +1,71 @@
+-- An arrival keeps a state tidy.
+use Rattle.std.proofs.Common.{◌≡◌, ℕ, Bool, true, false, cond, List, Contains, refl, sym, ap, ◌∙◌, subst, ◌⊎◌, inl, inr}
+use Rattle.ix_model.specs.declared.sub.Sub.{Sub}
+use Rattle.ix_model.specs.Parts.{Parts}
+use Rattle.ix_model.specs.Planned.{IsPlanned}
+use Rattle.ix_cluster.specs.declared.answers.Arrived.TheVariants.{Fresh, Known}
+use Rattle.ix_cluster.specs.declared.fact.Fact.{Fact}
+use Rattle.ix_cluster.specs.declared.fact.Fact.TheVariants as fact
+use Rattle.ix_cluster.specs.Facts.{has, put}
+use Rattle.ix_cluster.proofs.Members.{one_has, none_has, put-keeps, put-there}
+use Rattle.ix_closure.specs.declared.owed.Owed.{Owed}
+use Rattle.ix_closure.specs.declared.owed.Owed.TheVariants.{Claim, End, Arrive}
+use Rattle.ix_closure.specs.Balance.{IsBalanced}
+use Rattle.ix_closure.specs.Due.{IsRecorded}
+use Rattle.ix_closure.specs.Follows.{claim_of}
+use Rattle.ix_closure.specs.Quantity.{times}
+use Rattle.ix_closure.specs.Seen.{State}
+use Rattle.ix_closure.specs.Tidy.{IsTidy}
+use Rattle.ix_closure.proofs.Done.{IsDone, newly, tidy_after, ends_kept}
+use Rattle.ix_closure.proofs.DueCauses.{due_grows, arrival_not_first}
+use Rattle.ix_closure.proofs.Known.{claim_known}
+use Rattle.ix_closure.proofs.Logs.{IsBeside, has_none}
+use Rattle.ix_closure.proofs.Tidied.{HasCause, IsSingle, IsKnown}
+use Rattle.ix_closure.proofs.Times.{times-one}
+
+module _ (plan : Parts) (planned : IsPlanned plan) (old new : State) (n : ℕ) (log : List Fact) (sub : Sub) (more : List Owed)
+    (done : IsDone plan old new n log (Arrive sub) more) (tidy : IsTidy plan old) where
+  -- the subtree is recorded
+  recorded : IsRecorded new.banks (fact.Part sub)
+  recorded = done.moves.made (fact.Part sub) (put-keeps (put log (fact.Part sub)) (fact.Desc sub.slot sub.left sub.right) (fact.Part sub) (put-there log (fact.Part sub)))
+
+  -- what it records has its cause
+  caused : (f : Fact) → IsRecorded new.banks f → IsRecorded old.banks f ⊎ HasCause plan new f
+  unfolding IsBeside
+  caused f h = elim (newly plan planned old new n log (Arrive sub) more done f h) [
+    | inl o ↦ inl o
+    | inr w ↦ elim w [
+      | inl e ↦ inr (subst (HasCause plan new) e (inr (due_grows plan (IsRecorded old.banks) (IsRecorded new.banks) done.moves.grows (Arrive sub) done.due)))
+      | inr e ↦ inr (subst (HasCause plan new) e (
+        (λ r first. absurd (arrival_not_first plan planned (IsRecorded old.banks) sub done.due r first)),
+        (λ other. (sub.pivot, recorded)),
+      ))
+    ]
+  ]
+
+  -- the claim of a new descriptor was not known
+  claim_new : has log (fact.Desc sub.slot sub.left sub.right) ≡ false → ¬ (IsKnown old (Claim sub.slot sub.left sub.right))
+  claim_new e known = has_none log (fact.Desc sub.slot sub.left sub.right) e (done.moves.here (fact.Desc sub.slot sub.left sub.right) refl (claim_known plan planned old tidy.balanced sub.slot sub.left sub.right known))
+
+  -- what it brings is owed once, and was not known
+  brought : (x : Owed) → IsSingle x → Contains more x → (times more x ≡ 1) × ¬ (IsKnown old x)
+  brought x single c = by (has log (fact.Desc sub.slot sub.left sub.right)) refl done.follows
+    where
+      by : (b : Bool) → has log (fact.Desc sub.slot sub.left sub.right) ≡ b → more ≡ claim_of (cond b Known Fresh) sub → (times more x ≡ 1) × ¬ (IsKnown old x)
+      by true e w = absurd (none_has x (subst (λ steps. Contains steps x) w c))
+      by false e w =
+          let one = subst (λ steps. Contains steps x) w c in (
+            ap (λ steps. times steps x) w ∙ times-one (Claim sub.slot sub.left sub.right) x one,
+            λ known. claim_new e (subst (IsKnown old) (sym (one_has (Claim sub.slot sub.left sub.right) x one)) known),
+          )
+
+  -- it brings no end
+  no_end : (r k e : ℕ) → ¬ (Contains more (End r k e))
+  no_end r k e c = by (has log (fact.Desc sub.slot sub.left sub.right)) done.follows
+    where
+      by : (b : Bool) → more ≡ claim_of (cond b Known Fresh) sub → ⊥
+      by true w = none_has (End r k e) (subst (λ steps. Contains steps (End r k e)) w c)
+      by false w = let same = one_has (Claim sub.slot sub.left sub.right) (End r k e) (subst (λ steps. Contains steps (End r k e)) w c) in cc
+
+  pub arrive_tidy : IsBalanced plan new → IsTidy plan new
+  arrive_tidy balanced = tidy_after plan planned old new n log (Arrive sub) more done tidy balanced caused brought (ends_kept plan planned old new n log (Arrive sub) more done no_end)
