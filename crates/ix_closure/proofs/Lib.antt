@@ -10,6 +10,7 @@ pub mod CoreSteps
 pub mod Counting
 pub mod Done
 pub mod DueCauses
+pub mod EveryOrder
 pub mod FewChoices
 pub mod FewDescriptors
 pub mod Finishing

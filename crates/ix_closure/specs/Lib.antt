@@ -3,6 +3,7 @@ pub mod Closure
 pub mod Due
 pub mod Events
 pub mod Follows
+pub mod Orders
 pub mod Quantity
 pub mod Ready
 pub mod Runs

@@ -9,6 +9,7 @@ ghost use Rattle.ix_closure.specs.Balance.{IsBalanced};
 ghost use Rattle.ix_closure.specs.Closure.{IsClosure};
 ghost use Rattle.ix_closure.specs.Events.{Event};
 ghost use Rattle.ix_closure.specs.Follows.{claims_at};
+ghost use Rattle.ix_closure.specs.Orders.{EveryOrder};
 ghost use Rattle.ix_closure.specs.Runs.{IsReached};
 
 use crate::follow::push_claims;
@@ -54,6 +55,8 @@ impl<'p> Core<'p> {
         ensures plan { IfOk result (λ core. core.plan ≡ plan.now) }
         ensures banks { IfOk result (λ core. core.state.banks ≡ opening plan.now 1) }
         ensures owed { IfOk result (λ core. core.state.owed ≡ claims_at 0 (firsts_of plan.now 0)) }
+        // Whatever owed step is done next, the end is the closure.
+        ensures orders { IfOk result (λ core. EveryOrder plan.now core.state) }
     {
         // What holds of each plan: it has a first rule.
         let _ = plan.slot_count();
