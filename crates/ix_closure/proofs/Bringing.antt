@@ -190,21 +190,21 @@ module _ (plan : Parts) (planned : IsPlanned plan) (Mine Before After : Fact →
       where
         log_from : (f : Fact) → Contains (put (put log (fact.Part sub)) (fact.Desc sub.slot sub.left sub.right)) f → Contains log f ⊎ ((fact.Part sub ≡ f) ⊎ (fact.Desc sub.slot sub.left sub.right ≡ f))
         log_from f h = elim (put-from (put log (fact.Part sub)) (fact.Desc sub.slot sub.left sub.right) f h) [
-            inl o ↦ elim (put-from log (fact.Part sub) f o) [ inl q ↦ inl q | inr w ↦ inr (inl w) ]
+          | inl o ↦ elim (put-from log (fact.Part sub) f o) [ inl q ↦ inl q | inr w ↦ inr (inl w) ]
           | inr w ↦ inr (inr w)
-          ]
+        ]
 
         known : (f : Fact) → fact.Desc sub.slot sub.left sub.right ≡ f → Before f ⊎ ((fact.Part sub ≡ f) ⊎ ((has log (fact.Desc sub.slot sub.left sub.right) ≡ false) × (fact.Desc sub.slot sub.left sub.right ≡ f)))
         known f w = elim (either (has log (fact.Desc sub.slot sub.left sub.right))) [
-            inl t ↦ inl (subst Before w (m.back (fact.Desc sub.slot sub.left sub.right) (Contains-has log (fact.Desc sub.slot sub.left sub.right) t)))
+          | inl t ↦ inl (subst Before w (m.back (fact.Desc sub.slot sub.left sub.right) (Contains-has log (fact.Desc sub.slot sub.left sub.right) t)))
           | inr n ↦ inr (inr (n, w))
-          ]
+        ]
 
         from : (f : Fact) → After f → Before f ⊎ ((fact.Part sub ≡ f) ⊎ ((has log (fact.Desc sub.slot sub.left sub.right) ≡ false) × (fact.Desc sub.slot sub.left sub.right ≡ f)))
         from f h = elim (m.from f h) [
-            inl b ↦ inl b
+          | inl b ↦ inl b
           | inr w ↦ elim (log_from f w) [ inl o ↦ inl (m.back f o) | inr n ↦ elim n [ inl e ↦ inr (inl e) | inr e ↦ known f e ] ]
-          ]
+        ]
 
         claimed : (s l p : ℕ) (b : Bool) → b ≡ false → fact.Desc sub.slot sub.left sub.right ≡ fact.Desc s l p → Contains (claim_of (cond b Known Fresh) sub) (Claim s l p)
         claimed s l p true w e = absurd (cc)
@@ -249,9 +249,9 @@ module _ (plan : Parts) (planned : IsPlanned plan) (Mine Before After : Fact →
       done = made;
       newly = λ x d. elim (due_split plan Before After IsNewBy from x d) [ inl b ↦ inl b | inr n ↦ inr (newly x n) ];
       causes = λ x h. elim (Contains-append_cases (cond (not (has log (fact.Called r k))) (claims_at k (firsts_of plan r)) []) (map (λ e. arrival k e (record { slot = s; left = l })) (ends_in log (cluster r k))) x h) [
-          inl c ↦ claims_due (has log (fact.Called r k)) refl x c
+        | inl c ↦ claims_due (has log (fact.Called r k)) refl x c
         | inr a ↦ arrivals_due x a
-        ];
+      ];
     }
       where
         made : After (fact.Edge r k s l)
@@ -259,12 +259,12 @@ module _ (plan : Parts) (planned : IsPlanned plan) (Mine Before After : Fact →
 
         from : (f : Fact) → After f → Before f ⊎ IsNewBy f
         from f h = elim (m.from f h) [
-            inl b ↦ inl b
+          | inl b ↦ inl b
           | inr w ↦ elim (put-from (after_call plan log r k) (fact.Edge r k s l) f w) [
-              inl o ↦ elim (call-from plan log r k f o) [ inl q ↦ inl (m.back f q) | inr n ↦ inr (inr n) ]
+            | inl o ↦ elim (call-from plan log r k f o) [ inl q ↦ inl (m.back f q) | inr n ↦ inr (inr n) ]
             | inr e ↦ inr (inl e)
-            ]
           ]
+        ]
 
         old_end : (r' k' e : ℕ) → After (fact.End r' k' e) → Before (fact.End r' k' e)
         old_end r' k' e h = elim (from (fact.End r' k' e) h) [ inl b ↦ b | inr n ↦ absurd (no_other (fact.End r' k' e) (λ z w. cc) (λ z w. cc) (λ w. cc) (λ w. cc) n) ]

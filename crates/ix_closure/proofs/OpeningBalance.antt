@@ -48,12 +48,12 @@ module _ (plan : Parts) (planned : IsPlanned plan) (state : State) (banks : stat
   desc_owed : (s l p : ℕ) → IsRecorded state.banks (fact.Desc s l p) → Contains (claims_at 0 (firsts_of plan 0)) (Claim s l p)
   unfolding IsBegun
   desc_owed s l p h = elim (first_fact (fact.Desc s l p) h) [
-      inl e ↦ absurd (cc e)
+    | inl e ↦ absurd (cc e)
     | inr b ↦ elim b.2 [
-        inl e ↦ let q : Claim b.0 0 0 ≡ Claim s l p = (cc e) in subst (Contains (claims_at 0 (firsts_of plan 0))) q (map_has (λ n. Claim n 0 0) (firsts_of plan 0) b.0 b.1)
+      | inl e ↦ let q : Claim b.0 0 0 ≡ Claim s l p = (cc e) in subst (Contains (claims_at 0 (firsts_of plan 0))) q (map_has (λ n. Claim n 0 0) (firsts_of plan 0) b.0 b.1)
       | inr e ↦ absurd (cc (e.1))
-      ]
     ]
+  ]
 
   due_owed : (o : Owed) → FollowsIn plan state.banks o → Contains (claims_at 0 (firsts_of plan 0)) o
   due_owed o (claim s l p h) = desc_owed s l p h

@@ -104,9 +104,9 @@ event_shrinks plan old new n event =
     let set = facts_set old.banks (home_for plan (length old.banks) event.step) event.bank (bank_after plan event.bank event.step) event.there in
     let all = ap (λ (z : List Bank). length (facts_of z)) event.done in
     elim (progress plan event.bank.log event.step event.more event.follows) [
-        inl h ↦ inl (omega (arith, all, set, h))
+      | inl h ↦ inl (omega (arith, all, set, h))
       | inr h ↦ inr (omega (arith, all, set, h.0), omega (arith, ap length event.owed, ap (λ (z : List Owed). length (remove old.owed n ++ z)) h.1, ap length (append-nil (remove old.owed n)), length_remove old.owed n event.step event.taken))
-      ]
+    ]
 
 -- the room that is left for facts counts most, and then the number of owed steps
 pub falls : (top w l l' q q' : ℕ) → l' ≤ top → q' < w → (l + 1 ≤ l') ⊎ ((l ≤ l') × (q' + 1 ≡ q)) → (top - l') * w + q' < (top - l) * w + q

@@ -25,17 +25,17 @@ use Rattle.ix_closure.proofs.Recording.{recorded_in, recorded_by, recorded_close
 -- a fact is recorded or not
 pub recorded_or_not : (banks : List Bank) (f : Fact) → IsRecorded banks f ⊎ (IsRecorded banks f → ⊥)
 recorded_or_not banks f = elim (either (has (facts_of banks) f)) [
-    inl h ↦ inl (Contains-has (facts_of banks) f h)
+  | inl h ↦ inl (Contains-has (facts_of banks) f h)
   | inr n ↦ inr (λ h. absurd (cc (has-Contains (facts_of banks) f h, n)))
-  ]
+]
 
 module _ (plan : Parts) (state : State) (balanced : IsBalanced plan state) (quiet : state.owed ≡ []) where
   -- what is due is recorded
   recorded : (o : Owed) → FollowsIn plan state.banks o → IsRecorded state.banks (fact_of o)
   recorded o due = elim (recorded_or_not state.banks (fact_of o)) [
-      inl h ↦ h
+    | inl h ↦ h
     | inr n ↦ absurd (none_has o (subst (λ (z : List Owed). Contains z o) quiet (balanced.missing o (due, n))))
-    ]
+  ]
 
   claimed : (s l p : ℕ) → IsRecorded state.banks (fact.Desc s l p) → IsRecorded state.banks (fact.Claim s l p)
   claimed s l p h = recorded (step.Claim s l p) (claim s l p h)

@@ -2,6 +2,7 @@ pub mod Balance
 pub mod Closure
 pub mod Due
 pub mod Events
+pub mod Examples
 pub mod Follows
 pub mod Orders
 pub mod Quantity

@@ -8,3 +8,6 @@ mod steps;
 
 pub use owed::Owed;
 pub use state::{Core, Unfinished};
+
+#[cfg(test)]
+mod tests;

@@ -102,7 +102,13 @@ impl<'p> Core<'p> {
         let _ = self.plan.slot_count();
         let step = self.owed[n as usize];
         let m = home_for(self.plan, self.banks.count(), step) as usize;
-        do_step(self.plan, &mut self.banks.banks[m], &mut self.owed, n as usize, step)
+        do_step(
+            self.plan,
+            &mut self.banks.banks[m],
+            &mut self.owed,
+            n as usize,
+            step,
+        )
     }
 
     /// Does the last owed step again and again until nothing is owed. The banks have recorded exactly the closure then, each

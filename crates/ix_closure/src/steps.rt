@@ -74,13 +74,7 @@ fn next_step(plan: &Plan, slot: u32, left: u32, pos: u32) -> Option<Owed>
 }
 
 // What a claim brings: nothing, where the descriptor was claimed before.
-fn claimed_step(
-    plan: &Plan,
-    claimed: Claimed,
-    slot: u32,
-    left: u32,
-    pos: u32,
-) -> Option<Owed>
+fn claimed_step(plan: &Plan, claimed: Claimed, slot: u32, left: u32, pos: u32) -> Option<Owed>
     requires slot { slot < length plan.now.slots }
     requires pos { pos ≤ length plan.now.text }
     ensures { FollowsClaim plan.now claimed slot left pos (cons_option result []) }
@@ -136,12 +130,7 @@ fn do_claim(
     replace(owed, n, claimed_step(plan, claimed, slot, left, pos));
 }
 
-fn do_arrive(
-    bank: &mut Bank,
-    owed: &mut Vec<Owed>,
-    n: usize,
-    sub: Sub,
-) -> Result<(), AllocError>
+fn do_arrive(bank: &mut Bank, owed: &mut Vec<Owed>, n: usize, sub: Sub) -> Result<(), AllocError>
     requires n { n < length owed.old.items }
     ensures bank { OnOk result (bank.new ≡ record { log = after_arrival bank.old.log sub; handed = bank.old.handed }) }
     ensures owed { OnOk result (owed.new.items ≡ remove owed.old.items n ++ claim_of (arrival_answer bank.old.log sub) sub) }
