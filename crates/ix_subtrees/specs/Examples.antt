@@ -1,14 +1,16 @@
 -- Small plans that the worked examples and the tests speak of.
-use Rattle.std.specs.Prelude.{ℕ, List, [], ◌∷◌, codes, map}
+use Rattle.std.specs.Prelude.{ℕ, zero, suc, ◌+◌, List, [], ◌∷◌, ◌++◌, codes, map, replicate}
 use Rattle.ix_model.specs.declared.grammar.Mark.TheVariants.{Element}
 use Rattle.ix_model.specs.declared.plan.SlotInfo.{SlotInfo}
 use Rattle.ix_model.specs.declared.rules.Flat.{Flat}
 use Rattle.ix_model.specs.declared.rules.Kind.TheVariants.{Named, Group, List as Repeated}
 use Rattle.ix_model.specs.declared.rules.Line.{Line}
 use Rattle.ix_model.specs.declared.rules.Terminal.TheVariants.{Lit}
+use Rattle.ix_model.specs.declared.sub.Sub.{Sub}
 use Rattle.ix_model.specs.Parts.{Parts}
 use Rattle.ix_model.specs.Expanded.{line}
 use Rattle.ix_model.specs.Numbering.{numbering}
+use Rattle.ix_model.specs.Useful.{sub_at}
 use Rattle.ix_model.specs.ExamplePlans.{call, literal, named}
 
 -- a rule with a name
@@ -34,3 +36,17 @@ repeated_flats =
 -- of S: ()+. on the empty text
 abbrev pub repeated_nothing : Parts
 repeated_nothing = parts_of repeated_flats (numbering repeated_flats) []
+
+-- the rules of S: S, "a"; .
+abbrev pub left_recursive_flats : List Flat
+left_recursive_flats = named ((call 0 ∷ literal 0 ∷ []) ∷ [] ∷ []) ∷ []
+
+-- of S: S, "a"; . on n times `a`
+abbrev pub left_recursive : ℕ → Parts
+left_recursive n = parts_of left_recursive_flats (numbering left_recursive_flats) (replicate n 97)
+
+-- the subtrees that its closure has: the empty alternative, and S up to each position; and, up to each position but the
+-- first, the letter before it behind an S
+abbrev pub left_recursive_subs : ℕ → List Sub
+left_recursive_subs zero = sub_at 3 0 0 0 ∷ sub_at 1 0 0 0 ∷ []
+left_recursive_subs (suc n) = left_recursive_subs n ++ sub_at 2 0 n (n + 1) ∷ sub_at 1 0 0 (n + 1) ∷ []

@@ -1,10 +1,21 @@
 //! Worked examples. Each function's contract is the example; the bodies are empty.
-ghost use Rattle.ix_subtrees.specs.Laws.{PartsAreListed, PartIsLeftOut, PivotsAreInOrder, TwiceIsNotInOrder, ChoiceIsFound, ChoiceIsNotMissed};
+ghost use Rattle.ix_subtrees.specs.Laws.{PartsAreListed, PartIsLeftOut, LeftRecursiveIsListed, LeftRecursiveIsListedOnce, LeftRecursiveIsUseful, PivotsAreInOrder, TwiceIsNotInOrder, ChoiceIsFound, ChoiceIsNotMissed};
 
 /// A list has exactly the subtrees of a closure, or misses one.
 pub fn subtrees_are_listed_or_missed()
     ensures listed { PartsAreListed }
     ensures missed { PartIsLeftOut }
+{}
+
+/// A list has exactly the subtrees of a closure that grows with the text, and each of them once.
+pub fn left_recursion_is_listed()
+    ensures listed { LeftRecursiveIsListed }
+    ensures once { LeftRecursiveIsListedOnce }
+{}
+
+/// Of the subtrees of that closure all are useful but one, which ends with the text and still wants a letter.
+pub fn left_recursion_is_useful()
+    ensures { LeftRecursiveIsUseful }
 {}
 
 /// Pivots of one span are in order, or one stands twice.
