@@ -3,6 +3,7 @@ pub mod Found
 pub mod Gathering
 pub mod LastSlots
 pub mod LeftRecursion
+pub mod LeftRecursionSet
 pub mod LeftRecursionUses
 pub mod Lists
 pub mod Made

@@ -12,6 +12,8 @@ use Rattle.ix_model.specs.Expanded.{line}
 use Rattle.ix_model.specs.Numbering.{numbering}
 use Rattle.ix_model.specs.Useful.{sub_at}
 use Rattle.ix_model.specs.ExamplePlans.{call, literal, named}
+use Rattle.ix_subtrees.specs.Entries.{entry_for}
+use Rattle.ix_subtrees.specs.Sets.{SetLists}
 
 -- a rule with a name
 abbrev pub flat : List Line → Flat
@@ -50,3 +52,14 @@ left_recursive n = parts_of left_recursive_flats (numbering left_recursive_flats
 abbrev pub left_recursive_subs : ℕ → List Sub
 left_recursive_subs zero = sub_at 3 0 0 0 ∷ sub_at 1 0 0 0 ∷ []
 left_recursive_subs (suc n) = left_recursive_subs n ++ sub_at 2 0 n (n + 1) ∷ sub_at 1 0 0 (n + 1) ∷ []
+
+-- on one `a` the useful ones: the empty alternative, S up to the letter, and the letter behind it
+abbrev pub left_recursive_useful : List Sub
+left_recursive_useful = sub_at 3 0 0 0 ∷ sub_at 1 0 0 0 ∷ sub_at 2 0 0 1 ∷ []
+
+-- and the set of them: the pivot 0 of each, and S by its second alternative over nothing and by its first over the `a`
+abbrev pub left_recursive_set : SetLists
+left_recursive_set = record {
+  ways = entry_for 1 0 0 0 ∷ entry_for 2 0 1 0 ∷ entry_for 3 0 0 0 ∷ [];
+  alts = entry_for 0 0 0 1 ∷ entry_for 0 0 1 0 ∷ [];
+}
