@@ -1,5 +1,5 @@
 -- The set of the useful subtrees of S: S, "a"; . on one `a`, and what is not one.
-use Rattle.std.proofs.Common.{◌≡◌, ◌≢◌, refl, ap, sym, subst, ◌∙◌, ◌↔◌, ◌<◌, ℕ, zero, suc, [], ◌∷◌, None, arith}
+use Rattle.std.proofs.Common.{◌≡◌, ◌≢◌, refl, ap, sym, subst, ◌↔◌, ◌<◌, ℕ, zero, suc, [], ◌∷◌, None, arith}
 use mathlib.Core.Logic.{inl, inr}
 use Rattle.std.specs.List.{Contains}
 use Rattle.ix_model.specs.declared.sub.Sub.{Sub}
@@ -11,6 +11,7 @@ use Rattle.ix_subtrees.specs.Entries.{entry_for, AreInOrder}
 use Rattle.ix_subtrees.specs.Sets.{sub_of_entry, IsLastOf}
 use Rattle.ix_subtrees.specs.Examples.{left_recursive, left_recursive_subs, left_recursive_useful, left_recursive_set}
 use Rattle.ix_subtrees.specs.Laws.{ThreeAreUseful, ClosureIsNotUseful, WaysAreListed, UselessWayIsNotListed, LastSlotEnds, InnerSlotDoesNotEnd, AltsAreListed, EmptyAltIsNotLeftOut, ListsAreTheSet, WaysAreNotTheSet}
+use Rattle.ix_subtrees.proofs.Found.{made_same}
 use Rattle.ix_subtrees.proofs.LastSlots.{last_of_reads}
 use Rattle.ix_subtrees.proofs.LeftRecursionUses.{useful_left}
 use Rattle.ix_subtrees.proofs.Lists.{among_contains, contains_among}
@@ -104,10 +105,6 @@ alts_are_listed entry = (λ c. ended (contains_among left_recursive_set.alts ent
     ended (inr (inl e)) = subst Ended e (2, 0, last_slot_ends, useful_letter)
     ended (inr (inr e)) = absurd e
 
-    same_entry : (n a l r : ℕ) → n ≡ entry.number → a ≡ entry.choice → l ≡ entry.left → r ≡ entry.right → entry_for n l r a ≡ entry
-    same_entry n a l r e f g h =
-        ap (λ (z : ℕ). entry_for z l r a) e ∙ ap (λ (z : ℕ). entry_for entry.number z r a) g ∙ ap (λ (z : ℕ). entry_for entry.number entry.left z a) h ∙ ap (λ (z : ℕ). entry_for entry.number entry.left entry.right z) f
-
     -- what the slot tells, by an equal number
     reads : (s t : ℕ) → IsLastOf (left_recursive 1) s entry.number entry.choice → t ≡ s → (t < 4) × ((info_at (left_recursive 1) t).head ≡ entry.number) × ((info_at (left_recursive 1) t).alt ≡ entry.choice) × (sym_after (left_recursive 1) t ≡ None)
     reads s t last e = last_of_reads (left_recursive 1) t entry.number entry.choice (subst (λ (z : ℕ). IsLastOf (left_recursive 1) z entry.number entry.choice) (sym e) last)
@@ -115,11 +112,11 @@ alts_are_listed entry = (λ c. ended (contains_among left_recursive_set.alts ent
     listed : (s k : ℕ) → IsLastOf (left_recursive 1) s entry.number entry.choice → Among left_recursive_useful (sub_at s entry.left k entry.right) → Among left_recursive_set.alts entry
     listed s k last (inl e) =
         let r = reads s 3 last (ap (λ (z : Sub). z.slot) e) in
-        inl (same_entry 0 1 0 0 r.1 r.2 (ap (λ (z : Sub). z.left) e) (ap (λ (z : Sub). z.right) e))
+        inl (sym (made_same entry 0 0 0 1 (sym r.1) (sym (ap (λ (z : Sub). z.left) e)) (sym (ap (λ (z : Sub). z.right) e)) (sym r.2)))
     listed s k last (inr (inl e)) = absurd (cc (reads s 1 last (ap (λ (z : Sub). z.slot) e)).3)
     listed s k last (inr (inr (inl e))) =
         let r = reads s 2 last (ap (λ (z : Sub). z.slot) e) in
-        inr (inl (same_entry 0 0 0 1 r.1 r.2 (ap (λ (z : Sub). z.left) e) (ap (λ (z : Sub). z.right) e)))
+        inr (inl (sym (made_same entry 0 0 1 0 (sym r.1) (sym (ap (λ (z : Sub). z.left) e)) (sym (ap (λ (z : Sub). z.right) e)) (sym r.2))))
     listed s k last (inr (inr (inr e))) = absurd e
 
 pub empty_alt_is_not_left_out : EmptyAltIsNotLeftOut

@@ -15,6 +15,7 @@ use Rattle.ix_subtrees.specs.Examples.{left_recursive, left_recursive_subs}
 use Rattle.ix_subtrees.specs.Laws.{LeftRecursiveIsUseful}
 use Rattle.ix_subtrees.proofs.LeftRecursion.{planned_left, IsNext, next_left, last_left, IsOneOf, part_left, next_0, next_1, last_2, last_3, empty_part, part_up_to, letter_part, end_at, parts_left}
 use Rattle.ix_subtrees.proofs.SmallSets.{same_sub}
+use Rattle.ix_subtrees.proofs.Visits.{less_or_not}
 
 module _ (n : ℕ) (small : n < 2 ^ 32) where
   -- ---- from the end of the text back, S is reached up to each position
@@ -93,16 +94,13 @@ useful_left n small sub = (λ u. (listed u, not_last u), λ h. useful_of (left_r
         within : sub.right ≤ n
         within = omega (arith, (part_within (left_recursive n) (planned_left n small) sub.slot sub.left sub.pivot sub.right part).3, length-replicate {A = ℕ} n 97)
 
-        before_or_at : (i m : ℕ) → i ≤ m → (i < m) ⊎ (i ≡ m)
-        before_or_at i m h = grind arith
-
-        up_to : (sub.right < n) ⊎ (sub.right ≡ n) → sub_at 1 0 0 sub.right ≡ sub → SubReached (left_recursive n) sub.slot sub.left sub.pivot sub.right
+        up_to : (sub.right < n) ⊎ (n ≤ sub.right) → sub_at 1 0 0 sub.right ≡ sub → SubReached (left_recursive n) sub.slot sub.left sub.pivot sub.right
         up_to (inl h) e = by (sub_at 1 0 0 sub.right) (up_to_reached n small sub.right h (reached_up_to n small (sub.right + 1) (omega (arith, h)))) e
-        up_to (inr h) e = absurd (other (sym e ∙ ap (sub_at 1 0 0) h))
+        up_to (inr h) e = absurd (other (sym e ∙ ap (sub_at 1 0 0) (omega (arith, h, within))))
 
         go : IsOneOf n small sub.slot sub.left sub.pivot sub.right → SubReached (left_recursive n) sub.slot sub.left sub.pivot sub.right
         go (z, inl t) = by (sub_at 3 0 0 0) (empty_reached n small) (sym (same_sub sub.slot sub.left sub.pivot sub.right 3 0 0 0 t.0 z t.1 t.2))
-        go (z, inr (inl t)) = up_to (before_or_at sub.right n within) (sym (same_sub sub.slot sub.left sub.pivot sub.right 1 0 0 sub.right t.0 z t.1 refl))
+        go (z, inr (inl t)) = up_to (less_or_not sub.right n) (sym (same_sub sub.slot sub.left sub.pivot sub.right 1 0 0 sub.right t.0 z t.1 refl))
         go (z, inr (inr t)) =
             by (sub_at 2 0 sub.pivot (sub.pivot + 1)) (letter_reached n small sub.pivot (omega (arith, within, t.1)) (reached_up_to n small (sub.pivot + 1) (omega (arith, within, t.1))))
             (sym (same_sub sub.slot sub.left sub.pivot sub.right 2 0 sub.pivot (sub.pivot + 1) t.0 z refl t.1))
