@@ -27,7 +27,7 @@ use Rattle.ix_subtrees.specs.Laws.{LeftRecursiveIsListed, LeftRecursiveIsListedO
 use Rattle.ix_subtrees.proofs.Lists.{contains_among}
 use Rattle.ix_subtrees.proofs.SmallSets.{by_same, same_sub, PartOf}
 
--- what the list has more, on one letter more
+-- what one more letter adds to the list
 abbrev subs_to_next : ℕ → List Sub
 subs_to_next m = sub_at 2 0 m (m + 1) ∷ sub_at 1 0 0 (m + 1) ∷ []
 

@@ -47,8 +47,7 @@ left_recursive_flats = named ((call 0 ∷ literal 0 ∷ []) ∷ [] ∷ []) ∷ [
 abbrev pub left_recursive : ℕ → Parts
 left_recursive n = parts_of left_recursive_flats (numbering left_recursive_flats) (replicate n 97)
 
--- the subtrees that its closure has: the empty alternative, and S up to each position; and, up to each position but the
--- first, the letter before it behind an S
+-- the subtrees of its closure: the empty alternative, S up to each position, and each letter behind the S up to it
 abbrev pub left_recursive_subs : ℕ → List Sub
 left_recursive_subs zero = sub_at 3 0 0 0 ∷ sub_at 1 0 0 0 ∷ []
 left_recursive_subs (suc n) = left_recursive_subs n ++ sub_at 2 0 n (n + 1) ∷ sub_at 1 0 0 (n + 1) ∷ []
