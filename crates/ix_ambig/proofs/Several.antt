@@ -3,39 +3,35 @@ use Rattle.std.proofs.Common.{◌≡◌, ap, sym, subst, ◌∙◌, ◌⊎◌, �
 use mathlib.Core.Logic.{inl, inr}
 use Rattle.std.specs.List.{Contains}
 use Rattle.std.proofs.lemmas.List.{get_or_default}
+use Rattle.std.proofs.lemmas.List.Elements.{Contains-get_or}
 use Rattle.ix_subtrees.specs.declared.entry.Entry.{Entry}
 use Rattle.ix_subtrees.specs.Entries.{AreChoicesOf}
 use Rattle.ix_model.specs.declared.sub.Sub.{Sub}
 use Rattle.ix_model.specs.Parts.{Parts}
 use Rattle.ix_model.specs.Slots.{info_at}
 use Rattle.ix_subtrees.specs.Sets.{SetLists}
+use Rattle.ix_subtrees.proofs.Visits.{less_or_not}
 use Rattle.ix_ambig.specs.TwoChoices.{HasTwoChoices, HasTwoWaysAt}
 
 module _ (es : List Entry) (n l r : ℕ) (found : List ℕ) (choices : AreChoicesOf es n l r found) where
-  contains_at : (i : ℕ) → i < length found → Contains found (get_or found i 0)
-  contains_at i h = (i, h, get_or_default found i (get_or found i 0) 0 h)
-
   pub two_of_several : 1 < length found → HasTwoChoices es n l r
   two_of_several h =
       let rise = choices.rising 0 1 (omega arith) h in (
         get_or found 0 0,
         get_or found 1 0,
         λ e. absurd (omega (arith, e, rise)),
-        (choices.members (get_or found 0 0)).0 (contains_at 0 (omega (arith, h))),
-        (choices.members (get_or found 1 0)).0 (contains_at 1 h),
+        (choices.members (get_or found 0 0)).0 (Contains-get_or found 0 0 (omega (arith, h))),
+        (choices.members (get_or found 1 0)).0 (Contains-get_or found 1 0 h),
       )
 
   pub several_of_two : HasTwoChoices es n l r → 1 < length found
-  several_of_two t = go (some_or_few (length found))
+  several_of_two t = go (less_or_not 1 (length found))
     where
       j : Contains found t.0
       j = (choices.members t.0).1 t.3
 
       k : Contains found t.1
       k = (choices.members t.1).1 t.4
-
-      some_or_few : (m : ℕ) → (1 < m) ⊎ (m ≤ 1)
-      some_or_few m = grind arith
 
       go : (1 < length found) ⊎ (length found ≤ 1) → 1 < length found
       go (inl h) = h

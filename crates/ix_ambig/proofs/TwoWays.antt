@@ -16,6 +16,7 @@ use Rattle.ix_model.proofs.Reaching.{reached_part, useful_reached}
 use Rattle.ix_model.proofs.ClosedWithin.{part_within}
 use Rattle.ix_subtrees.specs.Entries.{entry_for, entry_at}
 use Rattle.ix_subtrees.specs.Sets.{sub_of_entry, SetLists, IsSetOf}
+use Rattle.ix_subtrees.proofs.Visits.{less_or_not}
 use Rattle.ix_ambig.specs.TwoChoices.{HasTwoChoices, HasTwoWaysAt}
 
 module _ (plan : Parts) (planned : IsPlanned plan) (set : SetLists) (of : IsSetOf plan set) where
@@ -75,11 +76,8 @@ module _ (plan : Parts) (planned : IsPlanned plan) (set : SetLists) (of : IsSetO
 
   -- none of the first subtrees has, nor has the next one
   pub none_next : (n i : ℕ) (sub : Sub) → sub ≡ nth n → (HasTwoWaysAt plan set sub → ⊥) → ((i : ℕ) → i < n → HasTwoWaysAt plan set (nth i) → ⊥) → i < n + 1 → HasTwoWaysAt plan set (nth i) → ⊥
-  none_next n i sub is hasnt none h t = go (before_or_at i n)
+  none_next n i sub is hasnt none h t = go (less_or_not i n)
     where
-      before_or_at : (i n : ℕ) → (i < n) ⊎ (n ≤ i)
-      before_or_at i n = grind arith
-
       go : (i < n) ⊎ (n ≤ i) → ⊥
       go (inl o) = none i o t
       go (inr o) =

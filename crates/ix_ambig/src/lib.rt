@@ -2,6 +2,7 @@
 #![tactic(auto)]
 
 mod ambiguity;
+pub mod laws;
 
 pub use ambiguity::two;
 

@@ -1,27 +1,18 @@
 -- The choices of one span.
-use Rattle.std.proofs.Common.{◌≡◌, refl, ap, sym, ◌∙◌, ◌+◌, ◌-◌, ◌^◌, ◌≤◌, ◌<◌, ℕ, zero, suc, List, [], ◌∷◌, length, arith, get_or, take, drop}
+use Rattle.std.proofs.Common.{◌≡◌, ap, sym, ◌∙◌, ◌+◌, ◌-◌, ◌^◌, ◌≤◌, ◌<◌, ℕ, List, length, arith, get_or, take, drop}
 use mathlib.Core.Logic.{inl, inr}
 use Rattle.std.specs.List.{Contains}
 use Rattle.std.proofs.lemmas.List.Elements.{All-get_or}
-use Rattle.std.proofs.lemmas.List.{get_or_default, get_or-take, get_or-drop}
+use Rattle.std.proofs.Math.ListN.{get_or-map}
+use Rattle.std.proofs.lemmas.List.{get_or_default, get_or-take, get_or-drop, length-map, length-take-le, length-drop}
 use Rattle.ix_subtrees.specs.declared.entry.Entry.{Entry}
 use Rattle.ix_subtrees.specs.Nodes.{span_code}
 use Rattle.ix_subtrees.specs.Entries.{entry_at, entry_for, IsFitEntry, AreChoices, AreChoicesOf}
 use Rattle.ix_subtrees.specs.EntryCodes.{entry_span, IsLowerEntry, IsUpperEntry}
-use Rattle.ix_subtrees.proofs.Meaning.{same_span, map_get, length_map}
+use Rattle.ix_subtrees.proofs.Meaning.{same_span}
 use Rattle.ix_subtrees.proofs.EntryOrder.{same_fields, choice_rises}
 use Rattle.ix_subtrees.proofs.Rising.{make, make_is}
 use Rattle.ix_subtrees.proofs.Visits.{less_or_not}
-
-length_drop : (l : ℕ) (xs : List ℕ) → l ≤ length xs → length (drop l xs) + l ≡ length xs
-length_drop zero xs h = omega arith
-length_drop (suc l) [] h = absurd (omega (arith, h))
-length_drop (suc l) (x ∷ xs) h = omega (arith, length_drop l xs (omega (arith, h)))
-
-length_take : (n : ℕ) (xs : List ℕ) → n ≤ length xs → length (take n xs) ≡ n
-length_take zero xs h = refl
-length_take (suc n) [] h = absurd (omega (arith, h))
-length_take (suc n) (x ∷ xs) h = ap suc (length_take n xs (omega (arith, h)))
 
 pub made_same : (e : Entry) (n l r k : ℕ) → e.number ≡ n → e.left ≡ l → e.right ≡ r → e.choice ≡ k → e ≡ entry_for n l r k
 made_same e n l r k a b c d =
@@ -36,13 +27,13 @@ module _ (es : List Entry) (cs : List ℕ) (low high n l r : ℕ) (kept : AreCho
   ]
 
   long : length cs ≡ length es
-  long = ap length kept.same ∙ length_map (λ (e : Entry). e.choice) es
+  long = ap length kept.same ∙ length-map es (λ (e : Entry). e.choice)
 
   count : length (take (high - low) (drop low cs)) ≡ high - low
-  count = length_take (high - low) (drop low cs) (omega (arith, length_drop low cs (omega (arith, lower.within, long)), ordered, upper.within, long))
+  count = length-take-le (high - low) (drop low cs) (omega (arith, length-drop low cs, ordered, upper.within, long))
 
   choice_at : (i : ℕ) → i < high - low → get_or (take (high - low) (drop low cs)) i 0 ≡ (entry_at es (low + i)).choice
-  choice_at i h = get_or-take (high - low) (drop low cs) i 0 h ∙ get_or-drop low cs i 0 ∙ ap (λ (z : List ℕ). get_or z (low + i) 0) kept.same ∙ map_get (λ (e : Entry). e.choice) es (low + i) (entry_for 0 0 0 0)
+  choice_at i h = get_or-take (high - low) (drop low cs) i 0 h ∙ get_or-drop low cs i 0 ∙ ap (λ (z : List ℕ). get_or z (low + i) 0) kept.same ∙ get_or-map (λ (e : Entry). e.choice) es (low + i) (entry_for 0 0 0 0)
 
   span_is : (i : ℕ) → low ≤ i → i < high → entry_span (entry_at es i) ≡ span_code n l r
   span_is i h k = omega (arith, lower.above i h (omega (arith, k, upper.within)), upper.below i k)

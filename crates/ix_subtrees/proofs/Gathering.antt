@@ -4,7 +4,7 @@ use mathlib.Core.Logic.{inl, inr}
 use Rattle.std.specs.List.{All, Contains}
 use Rattle.std.specs.Option.{option_to_list}
 use Rattle.std.proofs.lemmas.List.Elements.{All-from_get_or}
-use Rattle.std.proofs.lemmas.List.{get_or_default, get_or_append_left}
+use Rattle.std.proofs.lemmas.List.{append-nil, get_or_default, get_or_append_left, get_or_push, length_push}
 use Rattle.ix_model.specs.declared.sub.Sub.{Sub}
 use Rattle.ix_model.specs.Parts.{Parts}
 use Rattle.ix_model.specs.Useful.{sub_at, Useful}
@@ -14,7 +14,6 @@ use Rattle.ix_subtrees.specs.Subs.{no_sub}
 use Rattle.ix_subtrees.specs.UsefulSubs.{AreUseful}
 use Rattle.ix_subtrees.specs.Sets.{AreWays, AreAlts}
 use Rattle.ix_subtrees.specs.Gathered.{IsAlt, IsWay, Gathered}
-use Rattle.ix_subtrees.proofs.Rising.{seam, length_pushed, append_none}
 use Rattle.ix_subtrees.proofs.Visits.{less_or_not}
 
 module _ (R : Sub → Entry → Type 0) (subs : List Sub) where
@@ -22,7 +21,7 @@ module _ (R : Sub → Entry → Type 0) (subs : List Sub) where
   gathered_none = record { from = λ k h. absurd (omega (arith, h)); into = λ i e h. absurd (omega (arith, h)); fit = λ k h. absurd (omega (arith, h)) }
 
   pub gathered_next : (at : ℕ) (out more : List Entry) (new : Option Entry) → IfSome new (R (get_or subs at no_sub)) → ((e : Entry) → R (get_or subs at no_sub) e → new ≡ Some e) → IfSome new IsFitEntry → Gathered R subs at out → more ≡ out ++ option_to_list new → Gathered R subs (at + 1) more
-  gathered_next at out more None r only f g e = subst (λ (z : List Entry). Gathered R subs (at + 1) z) (sym (e ∙ append_none out)) (record {
+  gathered_next at out more None r only f g e = subst (λ (z : List Entry). Gathered R subs (at + 1) z) (sym (e ∙ append-nil out)) (record {
     from = λ k h. let i = g.from k h in (i.0, omega (arith, i.1), i.2);
     into = λ i x h s. elim (less_or_not i at) [ inl o ↦ g.into i x o s | inr o ↦ absurd (cc (only x (subst (λ (z : ℕ). R (get_or subs z no_sub) x) (omega (arith, o, h)) s))) ];
     fit = g.fit;
@@ -33,7 +32,7 @@ module _ (R : Sub → Entry → Type 0) (subs : List Sub) where
       old i h = get_or_append_left out (y ∷ []) (entry_for 0 0 0 0) i h
 
       last : (k : ℕ) → k < length (out ++ y ∷ []) → length out ≤ k → entry_at (out ++ y ∷ []) k ≡ y
-      last k h o = let n : length out ≡ k = omega (arith, o, h, length_pushed out y) in ap (entry_at (out ++ y ∷ [])) (sym n) ∙ seam out y
+      last k h o = let n : length out ≡ k = omega (arith, o, h, length_push out y) in get_or_push out y (entry_for 0 0 0 0) k n
 
       from' : (k : ℕ) → k < length (out ++ y ∷ []) → (i : ℕ) × (i < at + 1) × R (get_or subs i no_sub) (entry_at (out ++ y ∷ []) k)
       from' k h = elim (less_or_not k (length out)) [
@@ -43,10 +42,10 @@ module _ (R : Sub → Entry → Type 0) (subs : List Sub) where
 
       into' : (i : ℕ) (x : Entry) → i < at + 1 → R (get_or subs i no_sub) x → (k : ℕ) × (k < length (out ++ y ∷ [])) × (entry_at (out ++ y ∷ []) k ≡ x)
       into' i x h s = elim (less_or_not i at) [
-        | inl o ↦ let k = g.into i x o s in (k.0, omega (arith, k.1, length_pushed out y), old k.0 k.1 ∙ k.2)
+        | inl o ↦ let k = g.into i x o s in (k.0, omega (arith, k.1, length_push out y), old k.0 k.1 ∙ k.2)
         | inr o ↦
             let q : y ≡ x = cc (only x (subst (λ (z : ℕ). R (get_or subs z no_sub) x) (omega (arith, o, h)) s)) in
-            (length out, omega (arith, length_pushed out y), seam out y ∙ q)
+            (length out, omega (arith, length_push out y), get_or_push out y (entry_for 0 0 0 0) (length out) refl ∙ q)
       ]
 
       fit' : (k : ℕ) → k < length (out ++ y ∷ []) → IsFitEntry (entry_at (out ++ y ∷ []) k)

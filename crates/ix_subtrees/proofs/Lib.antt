@@ -2,6 +2,9 @@ pub mod EntryOrder
 pub mod Found
 pub mod Gathering
 pub mod LastSlots
+pub mod LeftRecursion
+pub mod LeftRecursionSet
+pub mod LeftRecursionUses
 pub mod Lists
 pub mod Made
 pub mod Meaning

@@ -1,7 +1,8 @@
 -- The list of nodes, and what is kept of it.
-use Rattle.std.proofs.Common.{◌≡◌, refl, ap, sym, subst, ◌∙◌, ◌+◌, ◌<◌, ℕ, zero, suc, Bool, true, false, List, [], ◌∷◌, ◌++◌, length, map, arith, get_or, take, drop, if◌then◌else◌, replicate}
+use Rattle.std.proofs.Common.{◌≡◌, refl, ap, sym, subst, ◌∙◌, ◌+◌, ◌<◌, ℕ, zero, suc, Bool, true, false, List, [], ◌∷◌, ◌++◌, length, map, arith, get_or, drop, if◌then◌else◌, replicate}
 use Rattle.std.specs.List.{All}
 use Rattle.std.specs.List.Sorted.{IsPermutation}
+use Rattle.std.proofs.lemmas.List.{append_assoc}
 use Rattle.std.proofs.lemmas.List.Sorted.{All-permutation}
 use Rattle.ix_model.specs.declared.sub.Sub.{Sub}
 use Rattle.ix_subtrees.specs.declared.place.Place.{Place}
@@ -10,15 +11,6 @@ use Rattle.ix_subtrees.specs.Nodes.{InOrder, Visited, no_node}
 use Rattle.ix_subtrees.specs.Walks.{Walking}
 use Rattle.ix_subtrees.specs.Subs.{node_for, sub_of, IsFit, AreNodes, kept}
 use Rattle.ix_subtrees.proofs.Walked.{walking_first}
-
--- what a write through a slice of a vector leaves
-pub write_back : {X : Type 0} (n : ℕ) (xs ys : List X) → length xs ≡ length ys → n ≡ length ys → take n (xs ++ drop (length xs) ys) ≡ xs
-write_back zero [] [] e f = refl
-write_back (suc n) [] [] e f = absurd (omega (arith, f))
-write_back n [] (y ∷ ys) e f = absurd (omega (arith, e))
-write_back n (x ∷ xs) [] e f = absurd (omega (arith, e))
-write_back zero (x ∷ xs) (y ∷ ys) e f = absurd (omega (arith, f))
-write_back (suc n) (x ∷ xs) (y ∷ ys) e f = ap (λ zs. x ∷ zs) (write_back n xs ys (omega (arith, e)) (omega (arith, f)))
 
 pub nodes_made : (places : List Place) (subs : List Sub) (items sorted all : List Node) → items ≡ map (node_for places) subs → All IsFit items → IsPermutation items sorted → InOrder sorted → all ≡ sorted → AreNodes places subs all
 nodes_made places subs items sorted all e f p o a = subst (λ (z : List Node). AreNodes places subs z) (sym a) (record {
@@ -41,12 +33,8 @@ pub kept_more : (nodes : List Node) (marks : List Bool) (at : ℕ) (subs more : 
     more ≡ subs ++ (if get_or marks at false then sub_of (get_or nodes at no_node) ∷ [] else []) → more ++ kept (drop (at + 1) nodes) (drop (at + 1) marks) ≡ kept nodes marks
 kept_more nodes marks at subs more h l e f = rw f (over (if get_or marks at false then sub_of (get_or nodes at no_node) ∷ [] else []) ∙ ap (λ (z : List Sub). subs ++ z) (sym (kept_next nodes marks at h l)) ∙ e)
   where
-    append_over : (xs ys zs : List Sub) → (xs ++ ys) ++ zs ≡ xs ++ (ys ++ zs)
-    append_over [] ys zs = refl
-    append_over (x ∷ xs) ys zs = ap (λ (z : List Sub). x ∷ z) (append_over xs ys zs)
-
     over : (ys : List Sub) → (subs ++ ys) ++ kept (drop (at + 1) nodes) (drop (at + 1) marks) ≡ subs ++ (ys ++ kept (drop (at + 1) nodes) (drop (at + 1) marks))
-    over ys = append_over subs ys (kept (drop (at + 1) nodes) (drop (at + 1) marks))
+    over ys = append_assoc subs ys (kept (drop (at + 1) nodes) (drop (at + 1) marks))
 
 pub walking_begun : (places : List Place) (nodes : List Node) (root n : ℕ) (before after marks : List Bool) (none todo : List ℕ) → before ≡ replicate n false → n ≡ length nodes → none ≡ [] → marks ≡ after → length after ≡ length nodes →
     Visited nodes (root ∷ []) before none after todo → Walking places nodes root marks todo

@@ -1,10 +1,11 @@
 -- A node's span is linked to the root's exactly where its subtree is reached.
-use Rattle.std.proofs.Common.{◌≡◌, refl, ap, sym, subst, ◌∙◌, ◌⊎◌, ◌+◌, ◌^◌, ◌<◌, ℕ, zero, suc, Bool, true, false, List, [], ◌∷◌, length, map, Option, Some, None, IfSome, arith, get_or, slice_get, true≢false}
+use Rattle.std.proofs.Common.{◌≡◌, refl, ap, sym, subst, ◌∙◌, ◌⊎◌, ◌+◌, ◌^◌, ◌<◌, ℕ, zero, suc, Bool, true, false, List, [], ◌∷◌, length, map, Option, Some, None, IfSome, arith, get_or, true≢false}
 use mathlib.Core.Logic.{inl, inr}
 use Rattle.std.specs.List.{Contains}
 use Rattle.std.proofs.lemmas.List.Sorted.{Contains-permutation, All-permutation}
 use Rattle.std.proofs.lemmas.List.Elements.{All-get_or, All-from_get_or}
-use Rattle.std.proofs.lemmas.List.{get_or_default}
+use Rattle.std.proofs.Math.ListN.{get_or-map}
+use Rattle.std.proofs.lemmas.List.{get_or_default, length-map}
 use Rattle.std.proofs.lemmas.Option.{slice_get-get_or}
 use Rattle.ix_model.specs.declared.grammar.Mark.{Mark}
 use Rattle.ix_model.specs.declared.rules.Sym.{Sym}
@@ -34,20 +35,6 @@ use Rattle.ix_subtrees.proofs.Visits.{among_left, among_right, among_parts}
 -- one code is one group and span
 pub same_span : (g l r h k m : ℕ) → l < 2 ^ 32 → r < 2 ^ 32 → k < 2 ^ 32 → m < 2 ^ 32 → span_code g l r ≡ span_code h k m → (g ≡ h) × ((l ≡ k) × (r ≡ m))
 same_span g l r h k m a b c d e = (omega (arith, a, b, c, d, e), (omega (arith, a, b, c, d, e), omega (arith, a, b, c, d, e)))
-
-pub map_get : {X Y : Type 0} (f : X → Y) (xs : List X) (k : ℕ) (d : X) → get_or (map f xs) k (f d) ≡ f (get_or xs k d)
-map_get f [] k d = refl
-map_get f (x ∷ xs) zero d = refl
-map_get f (x ∷ xs) (suc k) d = map_get f xs k d
-
-pub length_map : {X Y : Type 0} (f : X → Y) (xs : List X) → length (map f xs) ≡ length xs
-length_map f [] = refl
-length_map f (x ∷ xs) = ap suc (length_map f xs)
-
-get_there : {X : Type 0} (xs : List X) (i : ℕ) → i < length xs → (x : X) × (slice_get xs i ≡ Some x)
-get_there [] i h = absurd (omega (arith, h))
-get_there (x ∷ xs) zero h = (x, refl)
-get_there (x ∷ xs) (suc i) h = get_there xs i (omega (arith, h))
 
 from_codes : (o : Option ℕ) (l r c : ℕ) → Among (codes_of o l r) c → (g : ℕ) × (o ≡ Some g) × (span_code g l r ≡ c)
 from_codes None l r c h = absurd h
@@ -91,10 +78,10 @@ module _ (plan : Parts) (p : IsPlanned plan) (places : List Place) (subs : List 
     where
       each : (j : ℕ) → j < length (map (node_for places) subs) → IsOf plan places (get_or (map (node_for places) subs) j (node_for places no_sub))
       each j b =
-          let o : j < length subs = omega (arith, b, length_map (node_for places) subs) in
+          let o : j < length subs = omega (arith, b, length-map subs (node_for places)) in
           let x = get_or subs j no_sub in
           let part = (parts x).0 (j, o, get_or_default subs j x no_sub o) in
-          subst (λ (z : Node). IsOf plan places z) (sym (map_get (node_for places) subs j no_sub)) (record { part = part; group = refl })
+          subst (λ (z : Node). IsOf plan places z) (sym (get_or-map (node_for places) subs j no_sub)) (record { part = part; group = refl })
 
   fit_is : (i : ℕ) → i < length nodes → IsFit (get_or nodes i no_node)
   fit_is i h = All-get_or IsFit nodes i no_node h made.fit
@@ -103,8 +90,8 @@ module _ (plan : Parts) (p : IsPlanned plan) (places : List Place) (subs : List 
   to_node s l k r h =
       let sub : Sub = record { slot = s; left = l; pivot = k; right = r } in
       let c = (parts sub).1 h in
-      let e : get_or (map (node_for places) subs) c.0 (node_for places sub) ≡ node_for places sub = map_get (node_for places) subs c.0 sub ∙ ap (node_for places) c.2 in
-      let n = Contains-permutation (map (node_for places) subs) nodes (node_for places sub) made.same (c.0, omega (arith, c.1, length_map (node_for places) subs), e) in
+      let e : get_or (map (node_for places) subs) c.0 (node_for places sub) ≡ node_for places sub = get_or-map (node_for places) subs c.0 sub ∙ ap (node_for places) c.2 in
+      let n = Contains-permutation (map (node_for places) subs) nodes (node_for places sub) made.same (c.0, omega (arith, c.1, length-map subs (node_for places)), e) in
       (n.0, n.1, get_or_default nodes n.0 no_node (node_for places sub) n.1 ∙ n.2)
 
   Root : ℕ

@@ -5,7 +5,7 @@ use Rattle.std.specs.List.{All, Contains}
 use Rattle.std.specs.List.Sorted.{IsPermutation, IsNonDecreasingBy}
 use Rattle.std.proofs.lemmas.List.Elements.{All-get_or, All-from_get_or}
 use Rattle.std.proofs.lemmas.List.Sorted.{Contains-permutation, IsPermutation-sym}
-use Rattle.std.proofs.lemmas.List.{get_or_default, get_or_append_left}
+use Rattle.std.proofs.lemmas.List.{append-nil, get_or_default, get_or_append_left, get_or_push, length_push}
 use Rattle.ix_subtrees.specs.declared.entry.Entry.{Entry}
 use Rattle.ix_subtrees.specs.Entries.{entry_at, entry_for, IsBefore, AreInOrder, IsFitEntry, SameMembers}
 use Rattle.ix_subtrees.specs.EntryCodes.{entry_span, entry_code, Risen}
@@ -26,18 +26,6 @@ same_entry x y f g h =
     let s = same_fields x y f g e in
     let q : make x.number x.left x.right x.choice ≡ make y.number y.left y.right y.choice = cc (s.0, s.1, s.2, c) in
     sym (make_is x) ∙ q ∙ make_is y
-
-pub seam : (xs : List Entry) (y : Entry) → entry_at (xs ++ y ∷ []) (length xs) ≡ y
-seam [] y = refl
-seam (x ∷ xs) y = seam xs y
-
-pub length_pushed : (xs : List Entry) (y : Entry) → length (xs ++ y ∷ []) ≡ length xs + 1
-length_pushed [] y = refl
-length_pushed (x ∷ xs) y = omega (arith, length_pushed xs y)
-
-pub append_none : (xs : List Entry) → xs ++ [] ≡ xs
-append_none [] = refl
-append_none (x ∷ xs) = ap (λ (z : List Entry). x ∷ z) (append_none xs)
 
 pub risen_none : (es : List Entry) → Risen es 0 []
 risen_none es = record { order = λ i j h k. absurd (omega (arith, k)); from = λ i h. absurd (omega (arith, h)); into = λ k h. absurd (omega (arith, h)) }
@@ -67,22 +55,22 @@ module _ (es : List Entry) (fit : All IsFitEntry es) (order : IsNonDecreasingBy 
       rises i j h k = elim (less_or_not j (length out)) [
         | inl o ↦ let i' : i < length out = omega (arith, h, o) in subst (λ (z : Entry). IsBefore z (entry_at (out ++ entry_at es at ∷ []) j)) (sym (old i i')) (subst (λ (z : Entry). IsBefore (entry_at out i) z) (sym (old j o)) (r.order i j h o))
         | inr o ↦
-            let n : length out ≡ j = omega (arith, o, k, length_pushed out (entry_at es at)) in
+            let n : length out ≡ j = omega (arith, o, k, length_push out (entry_at es at)) in
             let i' : i < length out = omega (arith, h, n) in
-            let last : entry_at (out ++ entry_at es at ∷ []) j ≡ entry_at es at = ap (entry_at (out ++ entry_at es at ∷ [])) (sym n) ∙ seam out (entry_at es at) in
+            let last : entry_at (out ++ entry_at es at ∷ []) j ≡ entry_at es at = get_or_push out (entry_at es at) (entry_for 0 0 0 0) j n in
             subst (λ (z : Entry). IsBefore z (entry_at (out ++ entry_at es at ∷ []) j)) (sym (old i i')) (subst (λ (z : Entry). IsBefore (entry_at out i) z) (sym last) (before_by_code (entry_at out i) (entry_at es at) (fit_out i i') (All-get_or IsFitEntry es at (entry_for 0 0 0 0) b fit) (lower i i')))
       ]
 
       from' : (i : ℕ) → i < length (out ++ entry_at es at ∷ []) → (k : ℕ) × (k < at + 1) × (entry_at (out ++ entry_at es at ∷ []) i ≡ entry_at es k)
       from' i h = elim (less_or_not i (length out)) [
         | inl o ↦ let k = r.from i o in (k.0, omega (arith, k.1), old i o ∙ k.2)
-        | inr o ↦ let n : length out ≡ i = omega (arith, o, h, length_pushed out (entry_at es at)) in (at, omega arith, ap (entry_at (out ++ entry_at es at ∷ [])) (sym n) ∙ seam out (entry_at es at))
+        | inr o ↦ let n : length out ≡ i = omega (arith, o, h, length_push out (entry_at es at)) in (at, omega arith, get_or_push out (entry_at es at) (entry_for 0 0 0 0) i n)
       ]
 
       into' : (k : ℕ) → k < at + 1 → (i : ℕ) × (i < length (out ++ entry_at es at ∷ [])) × (entry_at (out ++ entry_at es at ∷ []) i ≡ entry_at es k)
       into' k h = elim (less_or_not k at) [
-        | inl o ↦ let i = r.into k o in (i.0, omega (arith, i.1, length_pushed out (entry_at es at)), old i.0 i.1 ∙ i.2)
-        | inr o ↦ let n : at ≡ k = omega (arith, o, h) in (length out, omega (arith, length_pushed out (entry_at es at)), seam out (entry_at es at) ∙ ap (entry_at es) n)
+        | inl o ↦ let i = r.into k o in (i.0, omega (arith, i.1, length_push out (entry_at es at)), old i.0 i.1 ∙ i.2)
+        | inr o ↦ let n : at ≡ k = omega (arith, o, h) in (length out, omega (arith, length_push out (entry_at es at)), get_or_push out (entry_at es at) (entry_for 0 0 0 0) (length out) refl ∙ ap (entry_at es) n)
       ]
 
   risen_old : (at : ℕ) (out : List Entry) → at < length es → 1 ≤ at → entry_code (entry_at es at) ≤ entry_code (entry_at es (at - 1)) → Risen es at out → Risen es (at + 1) out
@@ -101,7 +89,7 @@ module _ (es : List Entry) (fit : All IsFitEntry es) (order : IsNonDecreasingBy 
   pub risen_next : (at : ℕ) (out more : List Entry) (new : Bool) → at < length es → (new ≡ true → (at ≡ 0) ⊎ (entry_code (entry_at es (at - 1)) < entry_code (entry_at es at))) →
       (new ≡ false → (1 ≤ at) × (entry_code (entry_at es at) ≤ entry_code (entry_at es (at - 1)))) → Risen es at out → more ≡ out ++ (if new then entry_at es at ∷ [] else []) → Risen es (at + 1) more
   risen_next at out more true b n o r e = subst (λ (z : List Entry). Risen es (at + 1) z) (sym e) (risen_new at out b (n refl) r)
-  risen_next at out more false b n o r e = let f = o refl in subst (λ (z : List Entry). Risen es (at + 1) z) (sym (e ∙ append_none out)) (risen_old at out b f.0 f.1 r)
+  risen_next at out more false b n o r e = let f = o refl in subst (λ (z : List Entry). Risen es (at + 1) z) (sym (e ∙ append-nil out)) (risen_old at out b f.0 f.1 r)
 
   pub risen_all : (out : List Entry) → Risen es (length es) out → AreInOrder out × (SameMembers out es × All IsFitEntry out)
   risen_all out r = (r.order, (λ e. (there e, back e), All-from_get_or IsFitEntry out (entry_for 0 0 0 0) (λ i h. let k = r.from i h in subst IsFitEntry (sym k.2) (All-get_or IsFitEntry es k.0 (entry_for 0 0 0 0) k.1 fit))))

@@ -21,18 +21,18 @@ use Rattle.ix_subtrees.specs.UsefulSubs.{AreParts}
 use Rattle.ix_subtrees.specs.Examples.{repeated_nothing}
 use Rattle.ix_subtrees.proofs.Lists.{among_contains, contains_among}
 
-same_sub : (s l k r a b c d : ℕ) → s ≡ a → l ≡ b → k ≡ c → r ≡ d → sub_at s l k r ≡ sub_at a b c d
+pub same_sub : (s l k r a b c d : ℕ) → s ≡ a → l ≡ b → k ≡ c → r ≡ d → sub_at s l k r ≡ sub_at a b c d
 same_sub s l k r a b c d e f g h =
     ap (λ (z : ℕ). sub_at z l k r) e ∙ ap (λ (z : ℕ). sub_at a z k r) f ∙ ap (λ (z : ℕ). sub_at a b z r) g ∙ ap (λ (z : ℕ). sub_at a b c z) h
 
-abbrev PartOf : Parts → Sub → Type 0
+abbrev pub PartOf : Parts → Sub → Type 0
 PartOf plan sub = Part plan sub.slot sub.left sub.pivot sub.right
 
 -- a list has exactly the subtrees where each of it is one and it has each
 pub are_parts : (plan : Parts) (subs : List Sub) → ((sub : Sub) → Among subs sub → PartOf plan sub) → ((s l k r : ℕ) → Part plan s l k r → Among subs (sub_at s l k r)) → AreParts plan subs
 are_parts plan subs each all sub = (λ h. each sub (contains_among subs sub h.0 h.1 h.2), λ h. among_contains subs sub (all sub.slot sub.left sub.pivot sub.right h))
 
-by_same : (plan : Parts) (x sub : Sub) → PartOf plan x → x ≡ sub → PartOf plan sub
+pub by_same : (plan : Parts) (x sub : Sub) → PartOf plan x → x ≡ sub → PartOf plan sub
 by_same plan x sub h e = subst (λ (z : Sub). PartOf plan z) e h
 
 -- ---- S: "a". on a and on b, and S: S; "a". on a

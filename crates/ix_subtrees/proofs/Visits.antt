@@ -1,7 +1,7 @@
 -- One key's nodes get their marks.
 use Rattle.std.proofs.Common.{◌≡◌, ◌≢◌, refl, ap, sym, subst, ◌∙◌, ◌⊎◌, ◌+◌, ◌≤◌, ◌<◌, ℕ, zero, suc, Bool, true, false, List, [], ◌∷◌, ◌++◌, length, arith, get_or, set, true≢false}
 use mathlib.Core.Logic.{inl, inr}
-use Rattle.std.proofs.lemmas.List.{get_or-set_same, get_or-set_other, length-set}
+use Rattle.std.proofs.lemmas.List.{get_or-set_same, get_or-set_other, length-set, length_push}
 use Rattle.ix_subtrees.specs.declared.node.Node.{Node}
 use Rattle.ix_subtrees.specs.Nodes.{code_at, InOrder, IsFirstAt, Among, IsMarked, unmarked, AreTogether, Visited}
 
@@ -39,10 +39,6 @@ module _ {X : Type 0} where
   pub among_one : (y x : X) → Among (y ∷ []) x → y ≡ x
   among_one y x (inl e) = e
   among_one y x (inr h) = absurd h
-
-  length_pushed : (xs : List X) (y : X) → length (xs ++ y ∷ []) ≡ suc (length xs)
-  length_pushed [] y = refl
-  length_pushed (x ∷ xs) y = ap suc (length_pushed xs y)
 
 -- ---- marks
 
@@ -132,7 +128,7 @@ module _ (nodes : List Node) (c from : ℕ) (marks : List Bool) (todo : List ℕ
           | inl h ↦ elim (v.fresh i h) [ inl k ↦ inl k | inr k ↦ inr (k.0, set_marked marks' at i k.1) ]
           | inr h ↦ let n = among_one at i h in inr (subst (λ (z : ℕ). z < length nodes) n b, subst (λ (z : ℕ). IsMarked (set marks' at true) z) n mine)
         ];
-        paid = omega (arith, v.paid, unmarked_set marks' at inside f, length_pushed todo' at);
+        paid = omega (arith, v.paid, unmarked_set marks' at inside f, length_push todo' at);
       }
 
   -- the loop stops at the end, at another key, or at a marked node

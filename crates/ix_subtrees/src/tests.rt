@@ -3,7 +3,8 @@ ghost use Rattle.ix_model.specs.Expanded.{line as a_line};
 ghost use Rattle.ix_model.specs.Numbering.{slot};
 ghost use Rattle.ix_model.specs.Planned.{IsPlanned};
 ghost use Rattle.ix_model.specs.ExamplePlans.{only_a, cycle, two_alternatives};
-ghost use Rattle.ix_subtrees.specs.Examples.{parts_of, flat, repeated_nothing};
+ghost use Rattle.ix_subtrees.specs.Examples.{parts_of, flat, repeated_nothing, left_recursive, left_recursive_subs};
+ghost use Rattle.ix_subtrees.specs.Sets.{IsSetOf};
 
 use crate::{SubSet, useful};
 use ix_model::{Flat, Kind, Line, Mark, Plan, Rules, SlotInfo, Sub, Sym, Terminal, Text};
@@ -191,6 +192,61 @@ fn plan_of_repeated(alloc: Global) -> Result<Plan, AllocError>
     plan_of(alloc, flats, slots, Vec::new(alloc))
 }
 
+// `S: S, "a"; .` on this many times `a`.
+fn plan_of_left_recursive(alloc: Global, count: u32) -> Result<Plan, AllocError>
+    ensures { IfOk result (λ plan. plan ≡ left_recursive count) }
+{
+    let mut lines = Items::new(alloc);
+    lines.push(line(alloc, &[S, A])?)?;
+    lines.push(line(alloc, &[])?)?;
+    let mut flats = Items::new(alloc);
+    flats.push(Flat {
+        kind: Kind::Named,
+        lines,
+    })?;
+    let slots = Vec::from_slice(alloc, &[at(0, 0, 0), at(0, 0, 1), at(0, 0, 2), at(0, 1, 0)])?;
+    plan_of(alloc, flats, slots, vec![in alloc; 'a'; count as usize]?)
+}
+
+// The subtrees of its closure, each once.
+fn subs_of_left_recursive(alloc: Global, count: u32) -> Result<Vec<Sub>, AllocError>
+    ensures { IfOk result (λ subs. subs.items ≡ left_recursive_subs count) }
+{
+    let empty = Sub {
+        slot: 3,
+        ..OVER_NOTHING
+    };
+    let up_to_start = Sub {
+        slot: 1,
+        ..OVER_NOTHING
+    };
+    let mut subs = Vec::from_slice(alloc, &[empty, up_to_start])?;
+    for letter in 0..count {
+        let right = letter + 1;
+        subs.push(Sub {
+            slot: 2,
+            left: 0,
+            pivot: letter,
+            right,
+        })?;
+        subs.push(Sub {
+            slot: 1,
+            left: 0,
+            pivot: 0,
+            right,
+        })?;
+    }
+    Ok(subs)
+}
+
+fn useful_of_left_recursive(alloc: Global, count: u32) -> Result<SubSet, AllocError>
+    ensures { IfOk result (λ set. IsSetOf (left_recursive count) set) }
+{
+    let plan = plan_of_left_recursive(alloc, count)?;
+    let subs = subs_of_left_recursive(alloc, count)?;
+    useful(alloc, &plan, &subs)
+}
+
 #[test]
 fn one_derivation_uses_its_subtree(rt: HostRuntime) -> Result<(), Fail> {
     let alloc = rt.alloc();
@@ -280,5 +336,24 @@ fn repetitions_of_nothing_are_listed(rt: HostRuntime) -> Result<(), Fail> {
     assert_eq!(rt; set.count(), 5);
     assert_eq!(rt; set.alts(1, 0, 0), [0, 1].as_slice());
     assert_eq!(rt; set.alts(2, 0, 0), [0].as_slice());
+    Ok(())
+}
+
+#[test]
+fn a_long_text_is_listed(rt: HostRuntime) -> Result<(), Fail> {
+    let set = useful_of_left_recursive(rt.alloc(), 200_000)?;
+    assert!(rt; set.root());
+    // The closure has the empty alternative, an S up to each of the 200,001 positions, and each of the 200,000 letters
+    // behind an S. The only derivation has them all but one: behind the S up to the end of the text no letter follows.
+    assert_eq!(rt; set.count(), 400_001);
+    assert_eq!(rt; set.ways(1, 0, 100_000), [0].as_slice());
+    assert_eq!(rt; set.ways(2, 0, 100_000), [99_999].as_slice());
+    assert_eq!(rt; set.alts(0, 0, 100_000), [0].as_slice());
+    assert_eq!(rt; set.ways(1, 0, 199_999), [0].as_slice());
+    assert!(rt; set.ways(1, 0, 200_000).is_empty());
+    assert_eq!(rt; set.ways(2, 0, 200_000), [199_999].as_slice());
+    assert_eq!(rt; set.alts(0, 0, 200_000), [0].as_slice());
+    // S is empty where it begins.
+    assert_eq!(rt; set.alts(0, 0, 0), [1].as_slice());
     Ok(())
 }
