@@ -32,6 +32,7 @@ pub mod QuietCore
 pub mod Readiness
 pub mod Recording
 pub mod Sets
+pub mod SmallSteps
 pub mod Stepping
 pub mod Sublists
 pub mod Tidied

@@ -1,0 +1,108 @@
+//! Worked examples and laws of the definitions. Each function's contract is the example or the law; the bodies are empty.
+ghost use Rattle.std.specs.Prelude.{◌≡◌, ◌≢◌, ℕ, [], ◌∷◌, true, false, codes};
+ghost use Rattle.ix_model.specs.ExamplePlans.{cycle, insertion, nothing, only_a};
+ghost use Rattle.ix_cluster.specs.declared.answers.Arrived.TheVariants.{Fresh, Known};
+ghost use Rattle.ix_cluster.specs.declared.answers.Claimed.TheVariants.{Mine, Taken, Unknown};
+ghost use Rattle.ix_cluster.specs.declared.fact.Fact.TheVariants as fact;
+ghost use Rattle.ix_closure.specs.declared.owed.Owed.TheVariants.{Claim, Edge, End, Arrive};
+ghost use Rattle.ix_closure.specs.Follows.{fact_of, sub_of, arrival, claims_at, FollowsDesc, FollowsClaim, opened, met_ends, met_edges, claim_of, Follows};
+
+/// A step records a fact of its own kind and with its own numbers, and an arrival records the subtree.
+pub fn steps_have_facts()
+    ensures claim { fact_of (Claim 2 0 1) ≡ fact.Claim 2 0 1 }
+    ensures edge { fact_of (Edge 1 3 2 0) ≡ fact.Edge 1 3 2 0 }
+    ensures end { fact_of (End 1 3 4) ≡ fact.End 1 3 4 }
+    ensures subtree { fact_of (Arrive (sub_of 1 0 0 1)) ≡ fact.Part (sub_of 1 0 0 1) }
+    // A claim does not record its descriptor, which is there.
+    ensures other { fact_of (Claim 2 0 1) ≢ fact.Desc 2 0 1 }
+{}
+
+/// A subtree has its slot, left end, pivot and right end in this order.
+pub fn subtree_has_its_numbers()
+    ensures numbers { sub_of 3 0 1 2 ≡ record { slot = 3; left = 0; pivot = 1; right = 2 } }
+    ensures other { sub_of 3 0 1 2 ≢ record { slot = 3; left = 0; pivot = 2; right = 1 } }
+{}
+
+/// Behind the rule from 1 to 4 that slot 2 waits for, slot 3 arrives at 4.
+pub fn edge_arrives_behind_its_rule()
+    ensures arrives { arrival 1 4 (record { slot = 2; left = 0 }) ≡ Arrive (sub_of 3 0 1 4) }
+    ensures same_slot { arrival 1 4 (record { slot = 2; left = 0 }) ≢ Arrive (sub_of 2 0 1 4) }
+{}
+
+/// Each of the first slots is claimed at the position, in their order.
+pub fn first_slots_are_claimed()
+    ensures claims { claims_at 5 (0 ∷ 2 ∷ []) ≡ Claim 0 5 5 ∷ Claim 2 5 5 ∷ [] }
+    ensures turned { claims_at 5 (0 ∷ 2 ∷ []) ≢ Claim 2 5 5 ∷ Claim 0 5 5 ∷ [] }
+    ensures none { claims_at 5 [] ≡ [] }
+{}
+
+/// A terminal that stands there is passed, and one that does not stand there brings nothing.
+pub fn descriptor_passes_a_terminal()
+    ensures passes { FollowsDesc (only_a (codes "a")) 0 0 0 (Arrive (sub_of 1 0 0 1) ∷ []) }
+    ensures no_stop { ¬ (FollowsDesc (only_a (codes "a")) 0 0 0 []) }
+    ensures stops { FollowsDesc (only_a (codes "b")) 0 0 0 [] }
+    ensures no_arrival { ¬ (FollowsDesc (only_a (codes "b")) 0 0 0 (Arrive (sub_of 1 0 0 1) ∷ [])) }
+{}
+
+/// An insertion is passed without a character, a rule is called, and a dot at the end ends its rule.
+pub fn descriptor_brings_by_its_symbol()
+    ensures inserts { FollowsDesc (insertion (codes "x")) 0 0 0 (Arrive (sub_of 1 0 0 0) ∷ []) }
+    ensures no_character { ¬ (FollowsDesc (insertion (codes "x")) 0 0 0 (Arrive (sub_of 1 0 0 1) ∷ [])) }
+    ensures calls { FollowsDesc (cycle []) 0 0 0 (Edge 0 0 0 0 ∷ []) }
+    ensures no_end { ¬ (FollowsDesc (cycle []) 0 0 0 (End 0 0 0 ∷ [])) }
+    ensures ends { FollowsDesc (nothing []) 0 0 0 (End 0 0 0 ∷ []) }
+    ensures not_nothing { ¬ (FollowsDesc (nothing []) 0 0 0 []) }
+    // A slot that is not there brings nothing at all, not even the empty list.
+    ensures no_slot { ¬ (FollowsDesc (nothing []) 1 0 0 []) }
+{}
+
+/// What a descriptor brings comes with its first claim, and no other claim brings anything.
+pub fn first_claim_brings()
+    ensures mine { FollowsClaim (only_a (codes "a")) Mine 0 0 0 (Arrive (sub_of 1 0 0 1) ∷ []) }
+    ensures mine_nothing { ¬ (FollowsClaim (only_a (codes "a")) Mine 0 0 0 []) }
+    ensures taken { FollowsClaim (only_a (codes "a")) Taken 0 0 0 [] }
+    ensures again { ¬ (FollowsClaim (only_a (codes "a")) Taken 0 0 0 (Arrive (sub_of 1 0 0 1) ∷ [])) }
+    ensures unknown { FollowsClaim (only_a (codes "a")) Unknown 0 0 0 [] }
+    ensures unknown_brings { ¬ (FollowsClaim (only_a (codes "a")) Unknown 0 0 0 (Arrive (sub_of 1 0 0 1) ∷ [])) }
+{}
+
+/// The edge that calls its cluster opens the claims of the alternatives, and no other edge does.
+pub fn calling_edge_opens_claims()
+    ensures first { opened (cycle []) [] 0 3 0 0 ≡ Claim 0 3 3 ∷ Claim 2 3 3 ∷ [] }
+    ensures called { opened (cycle []) (fact.Called 0 3 ∷ []) 0 3 0 0 ≡ [] }
+    ensures elsewhere { opened (cycle []) (fact.Called 0 2 ∷ []) 0 3 0 0 ≢ [] }
+{}
+
+/// A new edge goes on behind each end of its own cluster, in their order; the same edge does not go on again.
+pub fn edge_goes_on_behind_ends()
+    ensures ends { met_ends (fact.End 0 1 1 ∷ fact.End 0 0 3 ∷ fact.End 0 1 2 ∷ []) 0 1 4 0 ≡ Arrive (sub_of 5 0 1 1) ∷ Arrive (sub_of 5 0 1 2) ∷ [] }
+    ensures again { met_ends (fact.End 0 1 1 ∷ fact.Edge 0 1 4 0 ∷ []) 0 1 4 0 ≡ [] }
+    ensures missed { met_ends (fact.End 0 1 1 ∷ fact.Edge 0 1 2 0 ∷ []) 0 1 4 0 ≢ [] }
+{}
+
+/// Each edge of its own cluster goes on behind a new end, in their order; behind the same end none goes on again.
+pub fn edges_go_on_behind_an_end()
+    ensures edges { met_edges (fact.Edge 0 1 4 0 ∷ fact.Edge 0 0 2 0 ∷ fact.Edge 0 1 6 1 ∷ []) 0 1 3 ≡ Arrive (sub_of 5 0 1 3) ∷ Arrive (sub_of 7 1 1 3) ∷ [] }
+    ensures again { met_edges (fact.Edge 0 1 4 0 ∷ fact.End 0 1 3 ∷ []) 0 1 3 ≡ [] }
+    ensures missed { met_edges (fact.Edge 0 1 4 0 ∷ fact.End 0 1 2 ∷ []) 0 1 3 ≢ [] }
+{}
+
+/// The descriptor of a subtree is claimed where it is new.
+pub fn new_descriptor_is_claimed()
+    ensures fresh { claim_of Fresh (sub_of 1 0 2 3) ≡ Claim 1 0 3 ∷ [] }
+    ensures known { claim_of Known (sub_of 1 0 2 3) ≡ [] }
+    ensures at_pivot { claim_of Fresh (sub_of 1 0 2 3) ≢ Claim 1 0 2 ∷ [] }
+{}
+
+/// A step brings its own list by the log that it met, and not another one.
+pub fn steps_bring_by_the_log()
+    ensures claim { Follows (only_a (codes "a")) (fact.Desc 0 0 0 ∷ []) (Claim 0 0 0) (Arrive (sub_of 1 0 0 1) ∷ []) }
+    ensures claimed { ¬ (Follows (only_a (codes "a")) (fact.Desc 0 0 0 ∷ fact.Claim 0 0 0 ∷ []) (Claim 0 0 0) (Arrive (sub_of 1 0 0 1) ∷ [])) }
+    // The claims of the cluster that an edge calls come before the arrivals behind the ends that it meets.
+    ensures edge { Follows (cycle (codes "a")) (fact.End 0 0 1 ∷ []) (Edge 0 0 0 0) (Claim 0 0 0 ∷ Claim 2 0 0 ∷ Arrive (sub_of 1 0 0 1) ∷ []) }
+    ensures ends_first { ¬ (Follows (cycle (codes "a")) (fact.End 0 0 1 ∷ []) (Edge 0 0 0 0) (Arrive (sub_of 1 0 0 1) ∷ Claim 0 0 0 ∷ Claim 2 0 0 ∷ [])) }
+    ensures end { Follows (cycle (codes "a")) (fact.Edge 0 0 0 0 ∷ []) (End 0 0 1) (Arrive (sub_of 1 0 0 1) ∷ []) }
+    ensures no_meeting { ¬ (Follows (cycle (codes "a")) (fact.Edge 0 0 0 0 ∷ []) (End 0 0 1) []) }
+    ensures arrival { Follows (only_a (codes "a")) [] (Arrive (sub_of 1 0 0 1)) (Claim 1 0 1 ∷ []) }
+    ensures known { ¬ (Follows (only_a (codes "a")) (fact.Desc 1 0 1 ∷ []) (Arrive (sub_of 1 0 0 1)) (Claim 1 0 1 ∷ [])) }
+{}
