@@ -14,6 +14,7 @@ pub mod EveryOrder
 pub mod FewChoices
 pub mod FewDescriptors
 pub mod Finishing
+pub mod FirstClaims
 pub mod FirstsOnce
 pub mod Following
 pub mod InClosure

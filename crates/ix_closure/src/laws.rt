@@ -1,11 +1,11 @@
 //! Worked examples and laws of the definitions. Each function's contract is the example or the law; the bodies are empty.
-ghost use Rattle.std.specs.Prelude.{◌≡◌, ◌≢◌, ℕ, [], ◌∷◌, true, false, codes};
+ghost use Rattle.std.specs.Prelude.{◌≡◌, ◌≢◌, ℕ, [], ◌∷◌, true, false, codes, None, Some};
 ghost use Rattle.ix_model.specs.ExamplePlans.{cycle, insertion, nothing, only_a};
 ghost use Rattle.ix_cluster.specs.declared.answers.Arrived.TheVariants.{Fresh, Known};
 ghost use Rattle.ix_cluster.specs.declared.answers.Claimed.TheVariants.{Mine, Taken, Unknown};
 ghost use Rattle.ix_cluster.specs.declared.fact.Fact.TheVariants as fact;
 ghost use Rattle.ix_closure.specs.declared.owed.Owed.TheVariants.{Claim, Edge, End, Arrive};
-ghost use Rattle.ix_closure.specs.Follows.{fact_of, sub_of, arrival, claims_at, FollowsDesc, FollowsClaim, opened, met_ends, met_edges, claim_of, Follows};
+ghost use Rattle.ix_closure.specs.Follows.{fact_of, sub_of, arrival, claims_at, claim_for, claims_for, FollowsDesc, FollowsClaim, opened, met_ends, met_edges, claim_of, Follows};
 
 /// A step records a fact of its own kind and with its own numbers, and an arrival records the subtree.
 pub fn steps_have_facts()
@@ -34,6 +34,14 @@ pub fn first_slots_are_claimed()
     ensures claims { claims_at 5 (0 ∷ 2 ∷ []) ≡ Claim 0 5 5 ∷ Claim 2 5 5 ∷ [] }
     ensures turned { claims_at 5 (0 ∷ 2 ∷ []) ≢ Claim 2 5 5 ∷ Claim 0 5 5 ∷ [] }
     ensures none { claims_at 5 [] ≡ [] }
+{}
+
+/// Each descriptor among the facts has its claim, in their order, and no other fact has one.
+pub fn descriptors_have_claims()
+    ensures descriptor { claim_for (fact.Desc 2 0 1) ≡ Some (Claim 2 0 1) }
+    ensures subtree { claim_for (fact.Part (sub_of 0 0 0 0)) ≡ None }
+    ensures claims { claims_for (fact.Called 0 0 ∷ fact.Desc 0 0 0 ∷ fact.Part (sub_of 0 0 0 0) ∷ fact.Desc 2 0 0 ∷ []) ≡ Claim 0 0 0 ∷ Claim 2 0 0 ∷ [] }
+    ensures turned { claims_for (fact.Desc 0 0 0 ∷ fact.Desc 2 0 0 ∷ []) ≢ Claim 2 0 0 ∷ Claim 0 0 0 ∷ [] }
 {}
 
 /// A terminal that stands there is passed, and one that does not stand there brings nothing.
