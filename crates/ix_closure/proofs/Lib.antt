@@ -24,6 +24,7 @@ pub mod Members
 pub mod NewCauses
 pub mod Once
 pub mod OnceEach
+pub mod OneOutcome
 pub mod Opening
 pub mod OpeningBalance
 pub mod Paid
@@ -33,6 +34,7 @@ pub mod QuietCore
 pub mod Readiness
 pub mod Recording
 pub mod Sets
+pub mod SmallEvents
 pub mod SmallSteps
 pub mod Stepping
 pub mod Sublists

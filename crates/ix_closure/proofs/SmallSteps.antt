@@ -1,11 +1,10 @@
 -- What the first descriptors of the small plans of the worked examples bring.
-use Rattle.std.proofs.Common.{rules, ◌≡◌, ℕ, true, [], ◌∷◌, codes, ap, refl, arith}
+use Rattle.std.proofs.Common.{rules, ℕ, true, [], ◌∷◌, codes, ap, refl, arith}
 use Rattle.ix_model.specs.Planned.{IsPlanned}
 use Rattle.ix_model.specs.FlatDerives.{IsTerminal}
-use Rattle.ix_model.specs.SlotPlaces.{HasNext, IsFirst, IsLast}
+use Rattle.ix_model.specs.SlotPlaces.{HasNext, IsLast}
 use Rattle.ix_model.specs.ExamplePlans.{call, literal, cycle, insertion, nothing, only_a}
-use Rattle.ix_model.specs.declared.rules.Sym.TheVariants as sy
-use Rattle.ix_model.proofs.SmallPlans.{literal_stands, planned_a}
+use Rattle.ix_model.proofs.SmallPlans.{literal_stands}
 use Rattle.ix_model.proofs.SmallTexts.{first}
 use Rattle.ix_closure.specs.declared.owed.Owed.TheVariants.{Edge, End, Arrive}
 use Rattle.ix_closure.specs.Follows.{FollowsDesc, passes, stops, inserts, calls, ends, sub_of}
@@ -40,6 +39,12 @@ next_0_c = (0, 0, 0, _, refl, refl, (_, _, refl, refl, refl), refl)
 
 pub cycle_calls : FollowsDesc (cycle []) 0 0 0 (Edge 0 0 0 0 ∷ [])
 cycle_calls = calls 0 1 _ next_0_c
+
+pub cycle_stops : FollowsDesc (cycle []) 2 0 0 []
+cycle_stops = stops 0 true 3 (0, 1, 0, _, refl, refl, (_, _, refl, refl, refl), refl) none
+  where
+    none : (e : ℕ) → IsTerminal (cycle []) (literal 0) 0 e → ⊥
+    none e h = let s = literal_stands (cycle []) 0 0 e (codes "a") refl h in omega (arith, s.0, s.1)
 
 -- ---- S: .
 

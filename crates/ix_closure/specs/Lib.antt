@@ -2,7 +2,9 @@ pub mod Balance
 pub mod Closure
 pub mod Due
 pub mod Events
+pub mod Examples
 pub mod Follows
+pub mod Laws
 pub mod Orders
 pub mod Quantity
 pub mod Ready

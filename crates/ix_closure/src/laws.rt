@@ -1,11 +1,14 @@
 //! Worked examples and laws of the definitions. Each function's contract is the example or the law; the bodies are empty.
-ghost use Rattle.std.specs.Prelude.{◌≡◌, ◌≢◌, ℕ, [], ◌∷◌, true, false, codes, None, Some};
+ghost use Rattle.std.specs.Prelude.{◌≡◌, ◌≢◌, [], ◌∷◌, ◌++◌, true, false, codes, None, Some};
 ghost use Rattle.ix_model.specs.ExamplePlans.{cycle, insertion, nothing, only_a};
 ghost use Rattle.ix_cluster.specs.declared.answers.Arrived.TheVariants.{Fresh, Known};
 ghost use Rattle.ix_cluster.specs.declared.answers.Claimed.TheVariants.{Mine, Taken, Unknown};
 ghost use Rattle.ix_cluster.specs.declared.fact.Fact.TheVariants as fact;
 ghost use Rattle.ix_closure.specs.declared.owed.Owed.TheVariants.{Claim, Edge, End, Arrive};
+ghost use Rattle.ix_closure.specs.Events.{log_after, handed_by, bank_after, home_for, Event};
+ghost use Rattle.ix_closure.specs.Examples.{alone, cycle_begun, cycle_called, cycle_claimed, nothing_begun, nothing_called, nothing_claimed, nothing_ended};
 ghost use Rattle.ix_closure.specs.Follows.{fact_of, sub_of, arrival, claims_at, claim_for, claims_for, FollowsDesc, FollowsClaim, opened, met_ends, met_edges, claim_of, Follows};
+ghost use Rattle.ix_closure.specs.Laws.{FollowsOnce, EventOnce, RunOnce};
 
 /// A step records a fact of its own kind and with its own numbers, and an arrival records the subtree.
 pub fn steps_have_facts()
@@ -113,4 +116,76 @@ pub fn steps_bring_by_the_log()
     ensures no_meeting { ¬ (Follows (cycle (codes "a")) (fact.Edge 0 0 0 0 ∷ []) (End 0 0 1) []) }
     ensures arrival { Follows (only_a (codes "a")) [] (Arrive (sub_of 1 0 0 1)) (Claim 1 0 1 ∷ []) }
     ensures known { ¬ (Follows (only_a (codes "a")) (fact.Desc 1 0 1 ∷ []) (Arrive (sub_of 1 0 0 1)) (Claim 1 0 1 ∷ [])) }
+{}
+
+/// A step brings one list of steps.
+pub fn step_brings_one_list()
+    ensures { FollowsOnce }
+{}
+
+/// The log of its bank has the step's fact behind the others, and what comes with it.
+pub fn step_is_recorded()
+    ensures claim { log_after (cycle []) cycle_called (Claim 2 0 0) ≡ fact.Called 0 0 ∷ fact.Desc 0 0 0 ∷ fact.Desc 2 0 0 ∷ fact.Claim 2 0 0 ∷ [] }
+    // A claim without its descriptor is not recorded.
+    ensures unknown { log_after (cycle []) cycle_called (Claim 3 0 0) ≡ cycle_called }
+    ensures edge { log_after (cycle []) [] (Edge 0 3 0 0) ≡ fact.Called 0 3 ∷ fact.Desc 0 3 3 ∷ fact.Desc 2 3 3 ∷ fact.Edge 0 3 0 0 ∷ [] }
+    ensures end { log_after (cycle []) (fact.Edge 0 0 0 0 ∷ []) (End 0 0 1) ≡ fact.Edge 0 0 0 0 ∷ fact.End 0 0 1 ∷ [] }
+    ensures again { log_after (cycle []) (fact.End 0 0 1 ∷ []) (End 0 0 1) ≡ fact.End 0 0 1 ∷ [] }
+    ensures arrival { log_after (cycle []) [] (Arrive (sub_of 3 0 0 1)) ≡ fact.Part (sub_of 3 0 0 1) ∷ fact.Desc 3 0 1 ∷ [] }
+    ensures alone { log_after (cycle []) [] (Arrive (sub_of 3 0 0 1)) ≢ fact.Part (sub_of 3 0 0 1) ∷ [] }
+{}
+
+/// A new edge hands out its pairs with the ends of its cluster, and a new end those with its edges; other steps hand out none.
+pub fn pairs_are_handed_out()
+    ensures end { handed_by (fact.Edge 0 0 0 0 ∷ fact.Edge 0 0 2 0 ∷ []) (End 0 0 1) ≡ 2 }
+    ensures again { handed_by (fact.Edge 0 0 0 0 ∷ fact.End 0 0 1 ∷ []) (End 0 0 1) ≡ 0 }
+    ensures edge { handed_by (fact.End 0 0 1 ∷ fact.End 0 1 1 ∷ []) (Edge 0 0 0 0) ≡ 1 }
+    ensures claim { handed_by (fact.Edge 0 0 0 0 ∷ fact.End 0 0 1 ∷ []) (Claim 0 0 0) ≡ 0 }
+    ensures arrival { handed_by (fact.Edge 0 0 0 0 ∷ fact.End 0 0 1 ∷ []) (Arrive (sub_of 1 0 0 1)) ≡ 0 }
+{}
+
+/// After a step its bank has the new log, and the pairs that were handed out are counted.
+pub fn bank_is_changed_by_a_step()
+    ensures changed { bank_after (cycle []) (record { log = fact.Edge 0 0 0 0 ∷ fact.Edge 0 0 2 0 ∷ []; handed = 3 }) (End 0 0 1) ≡ record { log = fact.Edge 0 0 0 0 ∷ fact.Edge 0 0 2 0 ∷ fact.End 0 0 1 ∷ []; handed = 5 } }
+    ensures not_counted { bank_after (cycle []) (record { log = fact.Edge 0 0 0 0 ∷ []; handed = 0 }) (End 0 0 1) ≢ record { log = fact.Edge 0 0 0 0 ∷ fact.End 0 0 1 ∷ []; handed = 0 } }
+{}
+
+/// A step belongs to the bank that is the home of its fact: of a claim and of a subtree by the slot's rule at the left end.
+pub fn steps_have_homes()
+    ensures claim { home_for (cycle []) 4 (Claim 1 2 3) ≡ 2 }
+    ensures edge { home_for (cycle []) 4 (Edge 2 3 1 0) ≡ 1 }
+    ensures end { home_for (cycle []) 4 (End 2 3 7) ≡ 1 }
+    ensures subtree { home_for (cycle []) 4 (Arrive (sub_of 1 5 6 7)) ≡ 1 }
+    // An edge belongs to the cluster that it is of, and not to that of its slot.
+    ensures of_slot { home_for (cycle []) 4 (Edge 0 3 1 0) ≢ home_for (cycle []) 4 (Claim 1 0 3) }
+{}
+
+/// The owed step is taken out and done, and what follows from it is owed.
+pub fn step_is_done()
+    ensures done { Event (nothing []) nothing_begun 0 nothing_claimed }
+    ensures next { Event (nothing []) nothing_claimed 0 nothing_ended }
+    // Nothing is owed there, what follows is not left out, and the step does not stay owed.
+    ensures no_step { ¬ (Event (nothing []) nothing_begun 1 nothing_claimed) }
+    ensures left_out { ¬ (Event (nothing []) nothing_begun 0 (alone (nothing_called ++ fact.Claim 0 0 0 ∷ []) 0 [])) }
+    ensures owed_still { ¬ (Event (nothing []) nothing_begun 0 (alone (nothing_called ++ fact.Claim 0 0 0 ∷ []) 0 (Claim 0 0 0 ∷ End 0 0 0 ∷ []))) }
+    ensures not_recorded { ¬ (Event (nothing []) nothing_begun 0 (alone nothing_called 0 (End 0 0 0 ∷ []))) }
+{}
+
+/// Any owed step can be the next one, and what follows is owed behind the others.
+pub fn any_owed_step_is_done()
+    ensures first { Event (cycle []) cycle_begun 0 (cycle_claimed (Claim 2 0 0 ∷ Edge 0 0 0 0 ∷ [])) }
+    ensures in_front { ¬ (Event (cycle []) cycle_begun 0 (cycle_claimed (Edge 0 0 0 0 ∷ Claim 2 0 0 ∷ []))) }
+    // On the empty text the second one brings nothing.
+    ensures second { Event (cycle []) cycle_begun 1 (alone (cycle_called ++ fact.Claim 2 0 0 ∷ []) 0 (Claim 0 0 0 ∷ [])) }
+    ensures other { ¬ (Event (cycle []) cycle_begun 1 (cycle_claimed (Claim 2 0 0 ∷ Edge 0 0 0 0 ∷ []))) }
+{}
+
+/// An owed step has one outcome.
+pub fn event_has_one_outcome()
+    ensures { EventOnce }
+{}
+
+/// Choices lead to one state.
+pub fn choices_lead_to_one_state()
+    ensures { RunOnce }
 {}

@@ -1,0 +1,46 @@
+-- Small states of the core, of which the worked examples speak.
+use Rattle.std.specs.Prelude.{ℕ, List, [], ◌∷◌, ◌++◌, codes}
+use Rattle.ix_cluster.specs.declared.fact.Fact.{Fact}
+use Rattle.ix_cluster.specs.declared.fact.Fact.TheVariants as fact
+use Rattle.ix_closure.specs.declared.owed.Owed.{Owed}
+use Rattle.ix_closure.specs.declared.owed.Owed.TheVariants.{Claim, Edge, End, Arrive}
+use Rattle.ix_closure.specs.Follows.{sub_of}
+use Rattle.ix_closure.specs.Seen.{State}
+
+-- one bank with this log, of which so many pairs were handed out, and what is owed
+abbrev pub alone : List Fact → ℕ → List Owed → State
+alone log handed owed = record { banks = record { log = log; handed = handed } ∷ []; owed = owed }
+
+-- ---- S: .   on the empty text
+
+-- the first call, with its alternative and the empty subtree
+abbrev pub nothing_called : List Fact
+nothing_called = fact.Called 0 0 ∷ fact.Desc 0 0 0 ∷ fact.Part (sub_of 0 0 0 0) ∷ []
+
+-- the whole closure
+abbrev pub nothing_closed : List Fact
+nothing_closed = nothing_called ++ fact.Claim 0 0 0 ∷ fact.End 0 0 0 ∷ []
+
+-- the state at the start, after the claim, and after the end
+abbrev pub nothing_begun : State
+nothing_begun = alone nothing_called 0 (Claim 0 0 0 ∷ [])
+
+abbrev pub nothing_claimed : State
+nothing_claimed = alone (nothing_called ++ fact.Claim 0 0 0 ∷ []) 0 (End 0 0 0 ∷ [])
+
+abbrev pub nothing_ended : State
+nothing_ended = alone nothing_closed 0 []
+
+-- ---- S: S; "a".   on the empty text
+
+-- the first call, with its two alternatives
+abbrev pub cycle_called : List Fact
+cycle_called = fact.Called 0 0 ∷ fact.Desc 0 0 0 ∷ fact.Desc 2 0 0 ∷ []
+
+-- the state at the start
+abbrev pub cycle_begun : State
+cycle_begun = alone cycle_called 0 (Claim 0 0 0 ∷ Claim 2 0 0 ∷ [])
+
+-- the state after the first claim, with the owed steps behind
+abbrev pub cycle_claimed : List Owed → State
+cycle_claimed owed = alone (cycle_called ++ fact.Claim 0 0 0 ∷ []) 0 owed
