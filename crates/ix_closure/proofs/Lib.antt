@@ -31,6 +31,7 @@ pub mod Paid
 pub mod Progress
 pub mod Quiet
 pub mod QuietCore
+pub mod QuietRuns
 pub mod Readiness
 pub mod Recording
 pub mod Sets

@@ -1,5 +1,6 @@
 -- What the first descriptors of the small plans of the worked examples bring.
 use Rattle.std.proofs.Common.{rules, ℕ, true, [], ◌∷◌, codes, ap, refl, arith}
+use Rattle.ix_model.specs.declared.rules.Sym.TheVariants as sy
 use Rattle.ix_model.specs.Planned.{IsPlanned}
 use Rattle.ix_model.specs.FlatDerives.{IsTerminal}
 use Rattle.ix_model.specs.SlotPlaces.{HasNext, IsLast}
@@ -29,8 +30,11 @@ b_stops = stops 0 true 1 (0, 0, 0, _, refl, refl, (_, _, refl, refl, refl), refl
 
 -- ---- S: +"x".
 
+pub next_0_x : HasNext (insertion (codes "x")) 0 1 (sy.Insert 0)
+next_0_x = (0, 0, 0, _, refl, refl, (_, _, refl, refl, refl), refl)
+
 pub insertion_passes : FollowsDesc (insertion (codes "x")) 0 0 0 (Arrive (sub_of 1 0 0 0) ∷ [])
-insertion_passes = inserts 0 1 (0, 0, 0, _, refl, refl, (_, _, refl, refl, refl), refl)
+insertion_passes = inserts 0 1 next_0_x
 
 -- ---- S: S; "a".
 

@@ -1,16 +1,18 @@
 //! Worked examples and laws of the definitions. Each function's contract is the example or the law; the bodies are empty.
-ghost use Rattle.std.specs.Prelude.{◌≡◌, ◌≢◌, [], ◌∷◌, ◌++◌, true, false, codes, None, Some};
+ghost use Rattle.std.specs.Prelude.{◌≡◌, ◌≢◌, [], ◌∷◌, ◌++◌, true, false, codes, None, Some, Contains};
 ghost use Rattle.ix_model.specs.ExamplePlans.{cycle, insertion, nothing, only_a, two_alternatives};
 ghost use Rattle.ix_cluster.specs.declared.answers.Arrived.TheVariants.{Fresh, Known};
 ghost use Rattle.ix_cluster.specs.declared.answers.Claimed.TheVariants.{Mine, Taken, Unknown};
 ghost use Rattle.ix_cluster.specs.declared.fact.Fact.TheVariants as fact;
 ghost use Rattle.ix_closure.specs.declared.owed.Owed.TheVariants.{Claim, Edge, End, Arrive};
+ghost use Rattle.ix_closure.specs.Due.{IsRecorded, IsDue, FollowsIn, IsMissing};
 ghost use Rattle.ix_closure.specs.Events.{log_after, handed_by, bank_after, home_for, Event};
 ghost use Rattle.ix_closure.specs.Examples.{alone, cycle_begun, cycle_called, cycle_claimed, nothing_begun, nothing_called, nothing_claimed, nothing_closed, nothing_ended};
 ghost use Rattle.ix_closure.specs.Follows.{fact_of, sub_of, arrival, claims_at, claim_for, claims_for, FollowsDesc, FollowsClaim, opened, met_ends, met_edges, claim_of, Follows};
 ghost use Rattle.ix_closure.specs.Laws.{FollowsOnce, EventOnce, RunOnce};
 ghost use Rattle.ix_closure.specs.Quantity.{same_step, times, gives, givers, step_bound};
 ghost use Rattle.ix_closure.specs.Ready.{HasFurther, HasSlot, IsReady, IsReplaced};
+ghost use Rattle.ix_closure.specs.Runs.{Run, IsReached, IsQuiet};
 
 /// A step records a fact of its own kind and with its own numbers, and an arrival records the subtree.
 pub fn steps_have_facts()
@@ -268,4 +270,64 @@ pub fn step_is_replaced()
     ensures in_front { ¬ (IsReplaced (only_a (codes "a")) (fact.Desc 0 0 0 ∷ []) (Claim 0 0 0) (Claim 0 0 0 ∷ End 0 0 0 ∷ []) 0 (Arrive (sub_of 1 0 0 1) ∷ End 0 0 0 ∷ [])) }
     ensures still_there { ¬ (IsReplaced (only_a (codes "a")) (fact.Desc 0 0 0 ∷ []) (Claim 0 0 0) (Claim 0 0 0 ∷ End 0 0 0 ∷ []) 0 (Claim 0 0 0 ∷ End 0 0 0 ∷ Arrive (sub_of 1 0 0 1) ∷ [])) }
     ensures forgotten { ¬ (IsReplaced (only_a (codes "a")) (fact.Desc 0 0 0 ∷ []) (Claim 0 0 0) (Claim 0 0 0 ∷ End 0 0 0 ∷ []) 0 (End 0 0 0 ∷ [])) }
+{}
+
+/// Two steps lead from the start of `S: .` on the empty text to its end, and no choice that is not owed leads anywhere.
+pub fn choices_lead_to_states()
+    ensures both { Run (nothing []) nothing_begun (0 ∷ 0 ∷ []) nothing_ended }
+    ensures none { Run (nothing []) nothing_begun [] nothing_begun }
+    ensures too_few { ¬ (Run (nothing []) nothing_begun (0 ∷ []) nothing_ended) }
+    ensures not_owed { ¬ (Run (nothing []) nothing_begun (0 ∷ 1 ∷ []) nothing_ended) }
+{}
+
+/// The end is reached from the start, and the start is not reached from the end.
+pub fn states_are_reached_by_steps()
+    ensures end { IsReached (nothing []) nothing_begun nothing_ended }
+    ensures itself { IsReached (nothing []) nothing_ended nothing_ended }
+    ensures back { ¬ (IsReached (nothing []) nothing_ended nothing_begun) }
+{}
+
+/// A state that owes nothing is quiet.
+pub fn quiet_state_owes_nothing()
+    ensures quiet { IsQuiet nothing_ended }
+    ensures not_yet { ¬ (IsQuiet nothing_claimed) }
+{}
+
+/// A fact is recorded where one of the banks has it.
+pub fn fact_is_recorded_by_a_bank()
+    ensures second { IsRecorded (record { log = []; handed = 0 } ∷ record { log = fact.Called 0 1 ∷ []; handed = 0 } ∷ []) (fact.Called 0 1) }
+    ensures other { ¬ (IsRecorded (record { log = []; handed = 0 } ∷ record { log = fact.Called 0 1 ∷ []; handed = 0 } ∷ []) (fact.Called 0 0)) }
+{}
+
+/// A descriptor is to be claimed, and a claimed one passes a terminal that stands there. One that is not claimed passes none.
+pub fn claimed_descriptor_passes()
+    ensures claim { IsDue (only_a (codes "a")) (Contains (fact.Desc 0 0 0 ∷ [])) (Claim 0 0 0) }
+    ensures no_descriptor { ¬ (IsDue (only_a (codes "a")) (Contains (fact.Claim 0 0 0 ∷ [])) (Claim 0 0 0)) }
+    ensures passed { IsDue (only_a (codes "a")) (Contains (fact.Claim 0 0 0 ∷ [])) (Arrive (sub_of 1 0 0 1)) }
+    ensures unclaimed { ¬ (IsDue (only_a (codes "a")) (Contains (fact.Desc 0 0 0 ∷ [])) (Arrive (sub_of 1 0 0 1))) }
+    ensures other_text { ¬ (IsDue (only_a (codes "b")) (Contains (fact.Claim 0 0 0 ∷ [])) (Arrive (sub_of 1 0 0 1))) }
+    ensures inserted { IsDue (insertion (codes "x")) (Contains (fact.Claim 0 0 0 ∷ [])) (Arrive (sub_of 1 0 0 0)) }
+    ensures no_character { ¬ (IsDue (insertion (codes "x")) (Contains (fact.Claim 0 0 0 ∷ [])) (Arrive (sub_of 1 0 0 1))) }
+{}
+
+/// A claimed descriptor waits for the rule behind its dot, or ends its own, and an edge and an end of one cluster meet.
+pub fn edges_and_ends_follow()
+    ensures waits { IsDue (cycle []) (Contains (fact.Claim 0 0 0 ∷ [])) (Edge 0 0 0 0) }
+    ensures before_terminal { ¬ (IsDue (cycle []) (Contains (fact.Claim 2 0 0 ∷ [])) (Edge 0 0 2 0)) }
+    ensures ends { IsDue (nothing []) (Contains (fact.Claim 0 0 0 ∷ [])) (End 0 0 0) }
+    ensures not_at_end { ¬ (IsDue (cycle []) (Contains (fact.Claim 0 0 0 ∷ [])) (End 0 0 0)) }
+    ensures meets { IsDue (cycle []) (Contains (fact.Edge 0 0 0 0 ∷ fact.End 0 0 1 ∷ [])) (Arrive (sub_of 1 0 0 1)) }
+    ensures no_edge { ¬ (IsDue (cycle []) (Contains (fact.End 0 0 1 ∷ [])) (Arrive (sub_of 1 0 0 1))) }
+    ensures other_cluster { ¬ (IsDue (cycle []) (Contains (fact.Edge 0 0 0 0 ∷ fact.End 0 1 1 ∷ [])) (Arrive (sub_of 1 0 0 1))) }
+{}
+
+/// The end follows once the descriptor is claimed, and is missing until it is recorded.
+pub fn end_is_missing_until_it_is_recorded()
+    ensures claim { IsMissing (nothing []) nothing_begun.banks (Claim 0 0 0) }
+    ensures claimed { ¬ (IsMissing (nothing []) nothing_claimed.banks (Claim 0 0 0)) }
+    ensures not_before { ¬ (FollowsIn (nothing []) nothing_begun.banks (End 0 0 0)) }
+    ensures follows { FollowsIn (nothing []) nothing_claimed.banks (End 0 0 0) }
+    ensures end { IsMissing (nothing []) nothing_claimed.banks (End 0 0 0) }
+    ensures follows_still { FollowsIn (nothing []) nothing_ended.banks (End 0 0 0) }
+    ensures recorded { ¬ (IsMissing (nothing []) nothing_ended.banks (End 0 0 0)) }
 {}
