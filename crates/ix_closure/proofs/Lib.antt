@@ -36,6 +36,7 @@ pub mod Readiness
 pub mod Recording
 pub mod Sets
 pub mod SmallEvents
+pub mod SmallStates
 pub mod SmallSteps
 pub mod Stepping
 pub mod Sublists

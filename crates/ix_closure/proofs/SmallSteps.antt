@@ -3,7 +3,7 @@ use Rattle.std.proofs.Common.{rules, ℕ, true, [], ◌∷◌, codes, ap, refl, 
 use Rattle.ix_model.specs.declared.rules.Sym.TheVariants as sy
 use Rattle.ix_model.specs.Planned.{IsPlanned}
 use Rattle.ix_model.specs.FlatDerives.{IsTerminal}
-use Rattle.ix_model.specs.SlotPlaces.{HasNext, IsLast}
+use Rattle.ix_model.specs.SlotPlaces.{HasNext, IsFirst, IsLast}
 use Rattle.ix_model.specs.ExamplePlans.{call, literal, cycle, insertion, nothing, only_a}
 use Rattle.ix_model.proofs.SmallPlans.{literal_stands}
 use Rattle.ix_model.proofs.SmallTexts.{first}
@@ -54,6 +54,9 @@ cycle_stops = stops 0 true 3 (0, 1, 0, _, refl, refl, (_, _, refl, refl, refl), 
 
 pub nothing_planned : IsPlanned (nothing [])
 nothing_planned = search rules
+
+pub nothing_first : IsFirst (nothing []) 0 0
+nothing_first = (0, _, refl, (_, _, refl, refl, refl))
 
 pub nothing_last : IsLast (nothing []) 0 0
 nothing_last = (0, _, refl, (_, _, refl, refl, refl))

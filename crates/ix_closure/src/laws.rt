@@ -5,14 +5,18 @@ ghost use Rattle.ix_cluster.specs.declared.answers.Arrived.TheVariants.{Fresh, K
 ghost use Rattle.ix_cluster.specs.declared.answers.Claimed.TheVariants.{Mine, Taken, Unknown};
 ghost use Rattle.ix_cluster.specs.declared.fact.Fact.TheVariants as fact;
 ghost use Rattle.ix_closure.specs.declared.owed.Owed.TheVariants.{Claim, Edge, End, Arrive};
+ghost use Rattle.ix_closure.specs.Balance.{IsBalanced};
+ghost use Rattle.ix_closure.specs.Closure.{IsClosure};
 ghost use Rattle.ix_closure.specs.Due.{IsRecorded, IsDue, FollowsIn, IsMissing};
 ghost use Rattle.ix_closure.specs.Events.{log_after, handed_by, bank_after, home_for, Event};
 ghost use Rattle.ix_closure.specs.Examples.{alone, cycle_begun, cycle_called, cycle_claimed, nothing_begun, nothing_called, nothing_claimed, nothing_closed, nothing_ended};
 ghost use Rattle.ix_closure.specs.Follows.{fact_of, sub_of, arrival, claims_at, claim_for, claims_for, FollowsDesc, FollowsClaim, opened, met_ends, met_edges, claim_of, Follows};
 ghost use Rattle.ix_closure.specs.Laws.{FollowsOnce, EventOnce, RunOnce};
+ghost use Rattle.ix_closure.specs.Orders.{EveryOrder};
 ghost use Rattle.ix_closure.specs.Quantity.{same_step, times, gives, givers, step_bound};
 ghost use Rattle.ix_closure.specs.Ready.{HasFurther, HasSlot, IsReady, IsReplaced};
 ghost use Rattle.ix_closure.specs.Runs.{Run, IsReached, IsQuiet};
+ghost use Rattle.ix_closure.specs.Tidy.{IsEmptyOfCalled, IsOwedOnce, IsTidy};
 
 /// A step records a fact of its own kind and with its own numbers, and an arrival records the subtree.
 pub fn steps_have_facts()
@@ -330,4 +334,56 @@ pub fn end_is_missing_until_it_is_recorded()
     ensures end { IsMissing (nothing []) nothing_claimed.banks (End 0 0 0) }
     ensures follows_still { FollowsIn (nothing []) nothing_ended.banks (End 0 0 0) }
     ensures recorded { ¬ (IsMissing (nothing []) nothing_ended.banks (End 0 0 0)) }
+{}
+
+/// A balanced state forgets no step that is missing, and owes none without a cause.
+pub fn balanced_state_forgets_nothing()
+    ensures begun { IsBalanced (nothing []) nothing_begun }
+    ensures ended { IsBalanced (nothing []) nothing_ended }
+    ensures forgotten_claim { ¬ (IsBalanced (nothing []) (alone nothing_called 0 [])) }
+    ensures forgotten_end { ¬ (IsBalanced (nothing []) (alone (nothing_called ++ fact.Claim 0 0 0 ∷ []) 0 [])) }
+    ensures edge_from_nowhere { ¬ (IsBalanced (nothing []) (alone nothing_called 0 (Claim 0 0 0 ∷ Edge 0 0 0 0 ∷ []))) }
+    ensures end_too_early { ¬ (IsBalanced (nothing []) (alone nothing_called 0 (Claim 0 0 0 ∷ End 0 0 0 ∷ []))) }
+    // The banks are sound: the first call is there, and no pair is counted that is none.
+    ensures no_call { ¬ (IsBalanced (nothing []) (alone [] 0 [])) }
+    ensures miscounted { ¬ (IsBalanced (nothing []) (alone nothing_called 1 (Claim 0 0 0 ∷ []))) }
+    // How often a step is owed it does not ask, nor whether its fact is there.
+    ensures twice { IsBalanced (nothing []) (alone nothing_called 0 (Claim 0 0 0 ∷ Claim 0 0 0 ∷ [])) }
+    ensures end_still { IsBalanced (nothing []) (alone nothing_closed 0 (End 0 0 0 ∷ [])) }
+{}
+
+/// A list of the closure has each fact of it and each claim, and none twice, in any order.
+pub fn closure_has_each_fact_once()
+    ensures whole { IsClosure (nothing []) nothing_closed }
+    ensures turned { IsClosure (nothing []) (fact.End 0 0 0 ∷ fact.Claim 0 0 0 ∷ nothing_called) }
+    ensures no_end { ¬ (IsClosure (nothing []) (nothing_called ++ fact.Claim 0 0 0 ∷ [])) }
+    ensures no_claim { ¬ (IsClosure (nothing []) (nothing_called ++ fact.End 0 0 0 ∷ [])) }
+    ensures no_call { ¬ (IsClosure (nothing []) []) }
+    ensures twice { ¬ (IsClosure (nothing []) (nothing_closed ++ fact.End 0 0 0 ∷ [])) }
+    ensures one_more { ¬ (IsClosure (nothing []) (nothing_closed ++ fact.Called 0 1 ∷ [])) }
+{}
+
+/// The empty subtree of an empty alternative stands where its rule is called.
+pub fn empty_subtree_is_of_a_call()
+    ensures empty { IsEmptyOfCalled (nothing []) nothing_begun (sub_of 0 0 0 0) }
+    ensures not_called { ¬ (IsEmptyOfCalled (nothing []) nothing_begun (sub_of 0 1 1 1)) }
+    ensures not_empty { ¬ (IsEmptyOfCalled (nothing []) nothing_begun (sub_of 0 0 0 1)) }
+    ensures of_a_literal { ¬ (IsEmptyOfCalled (cycle []) cycle_begun (sub_of 2 0 0 0)) }
+{}
+
+/// A step that is not done is owed once.
+pub fn step_is_owed_once()
+    ensures once { IsOwedOnce nothing_begun (Claim 0 0 0) }
+    ensures never { ¬ (IsOwedOnce nothing_begun (End 0 0 0)) }
+    ensures twice { ¬ (IsOwedOnce (alone nothing_called 0 (Claim 0 0 0 ∷ Claim 0 0 0 ∷ [])) (Claim 0 0 0)) }
+    ensures recorded { ¬ (IsOwedOnce (alone nothing_closed 0 (Claim 0 0 0 ∷ [])) (Claim 0 0 0)) }
+{}
+
+/// Whatever is done next, the states are tidy and the end is the closure. That is not so where a claim is forgotten or owed
+/// twice.
+pub fn every_order_ends_in_the_closure()
+    ensures begun { EveryOrder (nothing []) nothing_begun }
+    ensures cycle { EveryOrder (cycle []) cycle_begun }
+    ensures forgotten { ¬ (EveryOrder (nothing []) (alone nothing_called 0 [])) }
+    ensures twice { ¬ (EveryOrder (nothing []) (alone nothing_called 0 (Claim 0 0 0 ∷ Claim 0 0 0 ∷ []))) }
 {}
