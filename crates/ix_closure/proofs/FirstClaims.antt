@@ -1,8 +1,7 @@
 -- The alternatives that begin bring descriptors whose claims are those of their first slots, in order.
-use Rattle.std.proofs.Common.{◌≡◌, ℕ, Bool, true, false, cond, eqb, List, [], ◌∷◌, ◌++◌, Contains, append-nil, append_assoc, Option, None, Some, refl, sym, ap, ◌∙◌, subst, ◌⊎◌, inl, inr, arith}
-use Rattle.std.specs.List.{cons_option}
+use Rattle.std.proofs.Common.{◌≡◌, ℕ, Bool, true, false, cond, eqb, List, [], ◌∷◌, ◌++◌, Contains, append-nil, append_assoc, refl, sym, ap, ◌∙◌, subst, inl, inr, arith}
 use Rattle.std.proofs.lemmas.Bool.Decides.{nat_tests}
-use Rattle.std.proofs.lemmas.List.Elements.{Contains-push_cases, filter_map-append}
+use Rattle.std.proofs.lemmas.List.Elements.{Contains-push_cases}
 use Rattle.ix_model.specs.Parts.{Parts}
 use Rattle.ix_model.specs.Planned.{IsPlanned}
 use Rattle.ix_cluster.specs.declared.fact.Fact.{Fact}
@@ -11,7 +10,7 @@ use Rattle.ix_cluster.specs.Banks.{opening, facts_of}
 use Rattle.ix_cluster.specs.Facts.{has, put}
 use Rattle.ix_cluster.specs.Firsts.{firsts_of, is_at_end}
 use Rattle.ix_cluster.specs.Steps.{after_first, after_firsts, after_call, empty_sub}
-use Rattle.ix_cluster.proofs.Counts.{put-new}
+use Rattle.ix_cluster.proofs.Listing.{kept-put, pushed-put}
 use Rattle.ix_cluster.proofs.Members.{Contains-has, first_has, rest_has, none_has}
 use Rattle.ix_closure.specs.declared.owed.Owed.{Owed}
 use Rattle.ix_closure.specs.declared.owed.Owed.TheVariants.{Claim}
@@ -20,18 +19,6 @@ use Rattle.ix_closure.specs.Seen.{State}
 use Rattle.ix_closure.proofs.FirstsOnce.{firsts_once}
 use Rattle.ix_closure.proofs.Members.{filter_has}
 use Rattle.ix_closure.proofs.OnceEach.{IsOnceEach, once_distinct}
-
--- a new fact brings its claim behind the others
-claims_new : (log : List Fact) (f : Fact) → has log f ≡ false → claims_for (put log f) ≡ claims_for log ++ cons_option (claim_for f) []
-claims_new log f new = ap claims_for (put-new log f new) ∙ filter_map-append claim_for log (f ∷ [])
-
--- and a subtree brings none
-claims_part : (log : List Fact) (f : Fact) → claim_for f ≡ None → claims_for (put log f) ≡ claims_for log
-claims_part log f none = by (has log f)
-  where
-    by : (b : Bool) → claims_for (cond b log (log ++ f ∷ [])) ≡ claims_for log
-    by true = refl
-    by false = filter_map-append claim_for log (f ∷ []) ∙ ap (λ (o : Option Owed). claims_for log ++ cons_option o []) none ∙ append-nil (claims_for log)
 
 module _ (plan : Parts) (k : ℕ) where
   -- a descriptor without its claim among the others is not there
@@ -46,10 +33,10 @@ module _ (plan : Parts) (k : ℕ) where
   claims_first log s none = by (is_at_end plan s)
     where
       desc : claims_for (put log (fact.Desc s k k)) ≡ claims_for log ++ Claim s k k ∷ []
-      desc = claims_new log (fact.Desc s k k) (not_there log s none)
+      desc = pushed-put claim_for log (fact.Desc s k k) (not_there log s none)
 
       by : (b : Bool) → claims_for (cond b (put (put log (fact.Desc s k k)) (fact.Part (empty_sub s k))) (put log (fact.Desc s k k))) ≡ claims_for log ++ Claim s k k ∷ []
-      by true = claims_part (put log (fact.Desc s k k)) (fact.Part (empty_sub s k)) refl ∙ desc
+      by true = kept-put claim_for (put log (fact.Desc s k k)) (fact.Part (empty_sub s k)) refl ∙ desc
       by false = desc
 
   claims_firsts : (ss : List ℕ) (log : List Fact) → IsOnceEach ss → ((s : ℕ) → Contains ss s → Contains (claims_for log) (Claim s k k) → ⊥) → claims_for (after_firsts plan k ss log) ≡ claims_for log ++ claims_at k ss

@@ -1,5 +1,5 @@
 -- A state that owes nothing leads to itself alone.
-use Rattle.std.proofs.Common.{◌≡◌, ◌∙◌, ℕ, List, [], ◌∷◌, Some, slice_get, refl, sym, ap, subst}
+use Rattle.std.proofs.Common.{◌≡◌, ◌∙◌, ℕ, List, [], Some, slice_get, refl, sym, ap, subst}
 use Rattle.ix_model.specs.Parts.{Parts}
 use Rattle.ix_closure.specs.declared.owed.Owed.{Owed}
 use Rattle.ix_closure.specs.Events.{Event}

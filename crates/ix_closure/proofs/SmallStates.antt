@@ -1,10 +1,8 @@
 -- The small states of the worked examples: they are balanced and tidy, and end in the closure.
-use Rattle.std.proofs.Common.{rules, ◌≡◌, ℕ, zero, suc, List, [], ◌∷◌, Contains, Some, slice_get, subst, refl, sym, arith}
+use Rattle.std.proofs.Common.{rules, ◌≡◌, ℕ, zero, suc, List, [], ◌∷◌, Contains, Some, slice_get, subst, refl, arith}
 use Rattle.ix_model.specs.Parts.{Parts}
-use Rattle.ix_model.specs.Planned.{IsPlanned}
 use Rattle.ix_model.specs.ExamplePlans.{cycle, nothing}
-use Rattle.ix_cluster.specs.Banks.{opening, opening_bank}
-use Rattle.ix_cluster.specs.Room.{unclaimed_in}
+use Rattle.ix_cluster.specs.Banks.{opening_bank}
 use Rattle.ix_cluster.specs.Seen.{Bank}
 use Rattle.ix_cluster.specs.Sound.{IsSound, AreSound}
 use Rattle.ix_cluster.proofs.Soundness.{sound-begin}

@@ -1,9 +1,9 @@
 -- Small states of the core, of which the worked examples speak.
-use Rattle.std.specs.Prelude.{ℕ, List, [], ◌∷◌, ◌++◌, codes}
+use Rattle.std.specs.Prelude.{ℕ, List, [], ◌∷◌, ◌++◌}
 use Rattle.ix_cluster.specs.declared.fact.Fact.{Fact}
 use Rattle.ix_cluster.specs.declared.fact.Fact.TheVariants as fact
 use Rattle.ix_closure.specs.declared.owed.Owed.{Owed}
-use Rattle.ix_closure.specs.declared.owed.Owed.TheVariants.{Claim, Edge, End, Arrive}
+use Rattle.ix_closure.specs.declared.owed.Owed.TheVariants.{Claim, End}
 use Rattle.ix_closure.specs.Follows.{sub_of}
 use Rattle.ix_closure.specs.Seen.{State}
 

@@ -1,4 +1,4 @@
-use Rattle.std.proofs.Common.{rules, ◌≡◌, [], ◌∷◌, ◌++◌, Contains, subst, refl, inl, inr, arith}
+use Rattle.std.proofs.Common.{rules, [], ◌∷◌, Contains, subst, refl, inl, inr, arith}
 use Rattle.ix_model.specs.ExamplePlans.{nothing}
 use Rattle.ix_cluster.specs.declared.fact.Fact.TheVariants as fact
 use Rattle.ix_cluster.proofs.Members.{either_has, none_has, one_has, rest_has}

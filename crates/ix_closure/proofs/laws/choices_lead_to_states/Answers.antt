@@ -1,4 +1,4 @@
-use Rattle.std.proofs.Common.{◌≡◌, [], ◌∷◌, ap}
+use Rattle.std.proofs.Common.{[], ◌∷◌, ap}
 use Rattle.ix_model.specs.ExamplePlans.{nothing}
 use Rattle.ix_closure.specs.Examples.{nothing_begun, nothing_claimed, nothing_ended}
 use Rattle.ix_closure.specs.Runs.{rests}

@@ -1,4 +1,4 @@
-use Rattle.std.proofs.Common.{[], codes}
+use Rattle.std.proofs.Common.{[]}
 use Rattle.ix_model.specs.ExamplePlans.{literal}
 use Rattle.ix_cluster.specs.declared.fact.Fact.TheVariants as fact
 use Rattle.ix_cluster.proofs.Members.{first_has}

@@ -1,4 +1,4 @@
-use Rattle.std.proofs.Common.{rules, ◌≡◌, zero, suc, [], ◌∷◌, ◌++◌, Contains, refl, arith}
+use Rattle.std.proofs.Common.{rules, zero, suc, [], ◌∷◌, ◌++◌, Contains, refl, arith}
 use Rattle.std.specs.List.{IsDistinct}
 use Rattle.ix_model.specs.ExamplePlans.{nothing}
 use Rattle.ix_model.proofs.ClosedWithin.{called_within}
