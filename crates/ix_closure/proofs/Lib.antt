@@ -35,9 +35,11 @@ pub mod QuietRuns
 pub mod Readiness
 pub mod Recording
 pub mod Sets
+pub mod SmallAlternatives
 pub mod SmallEvents
 pub mod SmallStates
 pub mod SmallSteps
+pub mod SmallUntidy
 pub mod Stepping
 pub mod Sublists
 pub mod Tidied

@@ -1,15 +1,22 @@
 -- Small states of the core, of which the worked examples speak.
 use Rattle.std.specs.Prelude.{ℕ, List, [], ◌∷◌, ◌++◌}
+use Rattle.ix_model.specs.Parts.{Parts}
 use Rattle.ix_cluster.specs.declared.fact.Fact.{Fact}
 use Rattle.ix_cluster.specs.declared.fact.Fact.TheVariants as fact
 use Rattle.ix_closure.specs.declared.owed.Owed.{Owed}
 use Rattle.ix_closure.specs.declared.owed.Owed.TheVariants.{Claim, End}
+use Rattle.ix_closure.specs.Balance.{IsBalanced}
 use Rattle.ix_closure.specs.Follows.{sub_of}
 use Rattle.ix_closure.specs.Seen.{State}
+use Rattle.ix_closure.specs.Tidy.{IsTidy}
 
 -- one bank with this log, of which so many pairs were handed out, and what is owed
 abbrev pub alone : List Fact → ℕ → List Owed → State
 alone log handed owed = record { banks = record { log = log; handed = handed } ∷ []; owed = owed }
+
+-- the state is balanced, and yet not tidy
+abbrev pub IsUntidy : Parts → State → Type 0
+IsUntidy plan state = IsBalanced plan state × ¬ (IsTidy plan state)
 
 -- ---- S: .   on the empty text
 
@@ -44,3 +51,19 @@ cycle_begun = alone cycle_called 0 (Claim 0 0 0 ∷ Claim 2 0 0 ∷ [])
 -- the state after the first claim, with the owed steps behind
 abbrev pub cycle_claimed : List Owed → State
 cycle_claimed owed = alone (cycle_called ++ fact.Claim 0 0 0 ∷ []) 0 owed
+
+-- ---- S: "a".   on `a`
+
+-- the first call, with its alternative
+abbrev pub a_called : List Fact
+a_called = fact.Called 0 0 ∷ fact.Desc 0 0 0 ∷ []
+
+-- ---- S: "a"; "a".   on `a`
+
+-- the state in which both alternatives have passed the letter and are claimed behind it
+abbrev pub alternatives_claimed : State
+alternatives_claimed =
+    alone (
+    fact.Called 0 0 ∷ fact.Desc 0 0 0 ∷ fact.Desc 2 0 0 ∷ fact.Claim 0 0 0 ∷ fact.Claim 2 0 0 ∷ fact.Part (sub_of 1 0 0 1) ∷ fact.Desc 1 0 1 ∷
+    fact.Part (sub_of 3 0 0 1) ∷ fact.Desc 3 0 1 ∷ fact.Claim 1 0 1 ∷ fact.Claim 3 0 1 ∷ []
+    ) 0 (End 0 0 1 ∷ End 0 0 1 ∷ [])

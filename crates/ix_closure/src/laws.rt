@@ -1,6 +1,6 @@
 //! Worked examples and laws of the definitions. Each function's contract is the example or the law; the bodies are empty.
 ghost use Rattle.std.specs.Prelude.{◌≡◌, ◌≢◌, [], ◌∷◌, ◌++◌, true, false, codes, None, Some, Contains};
-ghost use Rattle.ix_model.specs.ExamplePlans.{cycle, insertion, nothing, only_a, two_alternatives};
+ghost use Rattle.ix_model.specs.ExamplePlans.{cycle, insertion, nothing, only_a, two_alternatives, two_halves};
 ghost use Rattle.ix_cluster.specs.declared.answers.Arrived.TheVariants.{Fresh, Known};
 ghost use Rattle.ix_cluster.specs.declared.answers.Claimed.TheVariants.{Mine, Taken, Unknown};
 ghost use Rattle.ix_cluster.specs.declared.fact.Fact.TheVariants as fact;
@@ -9,7 +9,7 @@ ghost use Rattle.ix_closure.specs.Balance.{IsBalanced};
 ghost use Rattle.ix_closure.specs.Closure.{IsClosure};
 ghost use Rattle.ix_closure.specs.Due.{IsRecorded, IsDue, FollowsIn, IsMissing};
 ghost use Rattle.ix_closure.specs.Events.{log_after, handed_by, bank_after, home_for, Event};
-ghost use Rattle.ix_closure.specs.Examples.{alone, cycle_begun, cycle_called, cycle_claimed, nothing_begun, nothing_called, nothing_claimed, nothing_closed, nothing_ended};
+ghost use Rattle.ix_closure.specs.Examples.{alone, a_called, alternatives_claimed, IsUntidy, cycle_begun, cycle_called, cycle_claimed, nothing_begun, nothing_called, nothing_claimed, nothing_closed, nothing_ended};
 ghost use Rattle.ix_closure.specs.Follows.{fact_of, sub_of, arrival, claims_at, claim_for, claims_for, FollowsDesc, FollowsClaim, opened, met_ends, met_edges, claim_of, Follows};
 ghost use Rattle.ix_closure.specs.Laws.{FollowsOnce, EventOnce, RunOnce};
 ghost use Rattle.ix_closure.specs.Orders.{EveryOrder};
@@ -377,6 +377,34 @@ pub fn step_is_owed_once()
     ensures never { ¬ (IsOwedOnce nothing_begun (End 0 0 0)) }
     ensures twice { ¬ (IsOwedOnce (alone nothing_called 0 (Claim 0 0 0 ∷ Claim 0 0 0 ∷ [])) (Claim 0 0 0)) }
     ensures recorded { ¬ (IsOwedOnce (alone nothing_closed 0 (Claim 0 0 0 ∷ [])) (Claim 0 0 0)) }
+{}
+
+/// What the steps reach is tidy, and what is not balanced is not tidy.
+pub fn reached_states_are_tidy()
+    ensures begun { IsTidy (nothing []) nothing_begun }
+    ensures claimed { IsTidy (nothing []) nothing_claimed }
+    ensures ended { IsTidy (nothing []) nothing_ended }
+    ensures forgotten { ¬ (IsTidy (nothing []) (alone nothing_called 0 [])) }
+{}
+
+/// Claims, edges and arrivals are owed once, and not where they are recorded. An end is owed at most once for each descriptor
+/// that gives it.
+pub fn tidy_state_owes_once()
+    ensures claim_twice { IsUntidy (nothing []) (alone nothing_called 0 (Claim 0 0 0 ∷ Claim 0 0 0 ∷ [])) }
+    ensures claim_recorded { IsUntidy (nothing []) (alone (nothing_called ++ fact.Claim 0 0 0 ∷ []) 0 (End 0 0 0 ∷ Claim 0 0 0 ∷ [])) }
+    ensures edge_twice { IsUntidy (cycle []) (cycle_claimed (Claim 2 0 0 ∷ Edge 0 0 0 0 ∷ Edge 0 0 0 0 ∷ [])) }
+    ensures arrival_twice { IsUntidy (only_a (codes "a")) (alone (a_called ++ fact.Claim 0 0 0 ∷ []) 0 (Arrive (sub_of 1 0 0 1) ∷ Arrive (sub_of 1 0 0 1) ∷ [])) }
+    ensures end_twice { IsUntidy (nothing []) (alone (nothing_called ++ fact.Claim 0 0 0 ∷ []) 0 (End 0 0 0 ∷ End 0 0 0 ∷ [])) }
+    ensures end_of_two { IsTidy (two_alternatives (codes "a")) alternatives_claimed }
+{}
+
+/// Nothing is recorded without what it comes from: an edge without its claim, a subtree without a step to it, a descriptor
+/// without its subtree, or the descriptor of a first slot without the call of its rule.
+pub fn tidy_state_has_causes()
+    ensures edge { IsUntidy (cycle []) (alone (cycle_called ++ fact.Edge 0 0 0 0 ∷ []) 0 (Claim 0 0 0 ∷ Claim 2 0 0 ∷ [])) }
+    ensures subtree { IsUntidy (only_a (codes "a")) (alone (a_called ++ fact.Part (sub_of 1 0 0 1) ∷ fact.Desc 1 0 1 ∷ []) 0 (Claim 0 0 0 ∷ Claim 1 0 1 ∷ [])) }
+    ensures descriptor { IsUntidy (only_a (codes "a")) (alone (a_called ++ fact.Desc 1 0 1 ∷ []) 0 (Claim 0 0 0 ∷ Claim 1 0 1 ∷ [])) }
+    ensures first_slot { IsUntidy (two_halves (codes "a")) (alone (a_called ++ fact.Desc 3 0 0 ∷ []) 0 (Claim 0 0 0 ∷ Claim 3 0 0 ∷ [])) }
 {}
 
 /// Whatever is done next, the states are tidy and the end is the closure. That is not so where a claim is forgotten or owed

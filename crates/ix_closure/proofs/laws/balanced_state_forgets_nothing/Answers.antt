@@ -1,12 +1,11 @@
-use Rattle.std.proofs.Common.{rules, [], ◌∷◌, Contains, subst, refl, inl, inr, arith}
+use Rattle.std.proofs.Common.{rules, [], refl, arith}
 use Rattle.ix_model.specs.ExamplePlans.{nothing}
 use Rattle.ix_cluster.specs.declared.fact.Fact.TheVariants as fact
-use Rattle.ix_cluster.proofs.Members.{either_has, none_has, one_has, rest_has}
-use Rattle.ix_closure.specs.declared.owed.Owed.{Owed}
+use Rattle.ix_cluster.proofs.Members.{none_has}
 use Rattle.ix_closure.specs.declared.owed.Owed.TheVariants.{Claim, Edge, End}
 use Rattle.ix_closure.specs.Due.{FollowsIn, claim, ends}
 use Rattle.ix_closure.specs.Examples.{nothing_begun, nothing_called, nothing_ended}
-use Rattle.ix_closure.proofs.SmallStates.{balanced_again, nothing_begun_tidy, nothing_ended_tidy}
+use Rattle.ix_closure.proofs.SmallStates.{balanced_more, nothing_begun_tidy, nothing_ended_tidy}
 use Rattle.ix_closure.proofs.SmallSteps.{nothing_last}
 use Rattle.ix_closure.proofs.laws.balanced_state_forgets_nothing.Goals as goal
 
@@ -15,9 +14,6 @@ no_edge = search rules
 
 no_end : FollowsIn (nothing []) nothing_begun.banks (End 0 0 0) → ⊥
 no_end = search rules
-
-from : (step : Owed) → Contains (Claim 0 0 0 ∷ Claim 0 0 0 ∷ []) step → Contains (Claim 0 0 0 ∷ []) step
-from step h = elim (either_has (Claim 0 0 0) (Claim 0 0 0 ∷ []) step h) [ inl e ↦ (0, omega arith, e) | inr rest ↦ rest ]
 
 pub returns-clause-begun : goal.returns-clause-begun
 returns-clause-begun c = nothing_begun_tidy.balanced
@@ -44,7 +40,7 @@ pub returns-clause-miscounted : goal.returns-clause-miscounted
 returns-clause-miscounted c = λ h. let e = (h.sound.each 0 (record { log = nothing_called; handed = 1 }) refl).handed in omega (arith, e)
 
 pub returns-clause-twice : goal.returns-clause-twice
-returns-clause-twice c = balanced_again (nothing []) nothing_begun nothing_begun_tidy.balanced (Claim 0 0 0 ∷ Claim 0 0 0 ∷ []) (λ step h. rest_has (Claim 0 0 0) (Claim 0 0 0 ∷ []) step h) from
+returns-clause-twice c = balanced_more (nothing []) nothing_begun nothing_begun_tidy.balanced (Claim 0 0 0) (claim 0 0 0 (1, omega arith, refl))
 
 pub returns-clause-end_still : goal.returns-clause-end_still
-returns-clause-end_still c = record { sound = nothing_ended_tidy.balanced.sound; missing = λ step m. absurd (none_has step (nothing_ended_tidy.balanced.missing step m)); caused = λ step h. subst (FollowsIn (nothing []) nothing_ended.banks) (one_has (End 0 0 0) step h) (ends 0 0 0 0 (3, omega arith, refl) nothing_last) }
+returns-clause-end_still c = balanced_more (nothing []) nothing_ended nothing_ended_tidy.balanced (End 0 0 0) (ends 0 0 0 0 (3, omega arith, refl) nothing_last)
