@@ -24,6 +24,7 @@ pub mod Members
 pub mod NewCauses
 pub mod Once
 pub mod OnceEach
+pub mod OneClosure
 pub mod OneOutcome
 pub mod Opening
 pub mod OpeningBalance
@@ -40,6 +41,7 @@ pub mod SmallEvents
 pub mod SmallStates
 pub mod SmallSteps
 pub mod SmallUntidy
+pub mod SomeOutcome
 pub mod Stepping
 pub mod Sublists
 pub mod Tidied

@@ -4,7 +4,7 @@ use Rattle.std.proofs.lemmas.List.Elements.{Contains-append_left, Contains-push_
 use Rattle.ix_model.specs.Parts.{Parts}
 use Rattle.ix_model.specs.Planned.{IsPlanned}
 use Rattle.ix_model.specs.ExamplePlans.{cycle, nothing, only_a}
-use Rattle.ix_model.proofs.SmallPlans.{planned_a}
+use Rattle.ix_model.proofs.SmallPlans.{planned_a, planned_b}
 use Rattle.ix_cluster.specs.declared.fact.Fact.TheVariants as fact
 use Rattle.ix_cluster.specs.Banks.{opening, opening_bank}
 use Rattle.ix_cluster.specs.Firsts.{firsts_of}
@@ -27,7 +27,7 @@ use Rattle.ix_closure.specs.Seen.{State}
 use Rattle.ix_closure.specs.Tidy.{IsTidy}
 use Rattle.ix_closure.proofs.EveryOrder.{every_order}
 use Rattle.ix_closure.proofs.SmallEvents.{cycle_is_claimed, first_goes_on, nothing_goes_on, nothing_runs}
-use Rattle.ix_closure.proofs.SmallSteps.{a_passes, nothing_planned}
+use Rattle.ix_closure.proofs.SmallSteps.{a_passes, b_stops, nothing_planned}
 
 -- one sound bank
 pub one_sound : (plan : Parts) (bank : Bank) → IsSound plan 1 0 bank → AreSound plan (bank ∷ [])
@@ -83,3 +83,9 @@ pub a_claimed_tidy : IsTidy (only_a (codes "a")) (alone (a_called ++ fact.Claim 
 a_claimed_tidy =
     (opening_order (only_a (codes "a")) planned_a (omega arith)).tidy (0 ∷ []) (alone (a_called ++ fact.Claim 0 0 0 ∷ []) 0 (Arrive (sub_of 1 0 0 1) ∷ []))
     (first_goes_on (only_a (codes "a")) a_begun [] a_called 0 (Claim 0 0 0) [] (Arrive (sub_of 1 0 0 1) ∷ []) rests refl a_passes (omega arith))
+
+-- on `b` the letter is not passed
+pub b_closure : IsClosure (only_a (codes "b")) (a_called ++ fact.Claim 0 0 0 ∷ [])
+b_closure =
+    (opening_order (only_a (codes "b")) planned_b (omega arith)).ends (0 ∷ []) (alone (a_called ++ fact.Claim 0 0 0 ∷ []) 0 [])
+    (first_goes_on (only_a (codes "b")) a_begun [] a_called 0 (Claim 0 0 0) [] [] rests refl b_stops (omega arith)) refl

@@ -1,5 +1,5 @@
 //! Worked examples and laws of the definitions. Each function's contract is the example or the law; the bodies are empty.
-ghost use Rattle.std.specs.Prelude.{◌≡◌, ◌≢◌, [], ◌∷◌, ◌++◌, true, false, codes, None, Some, Contains};
+ghost use Rattle.std.specs.Prelude.{◌≡◌, ◌≢◌, [], ◌∷◌, ◌++◌, ◌^◌, true, false, codes, replicate, None, Some, Contains};
 ghost use Rattle.ix_model.specs.ExamplePlans.{cycle, insertion, nothing, only_a, two_alternatives, two_halves};
 ghost use Rattle.ix_cluster.specs.declared.answers.Arrived.TheVariants.{Fresh, Known};
 ghost use Rattle.ix_cluster.specs.declared.answers.Claimed.TheVariants.{Mine, Taken, Unknown};
@@ -11,12 +11,14 @@ ghost use Rattle.ix_closure.specs.Due.{IsRecorded, IsDue, FollowsIn, IsMissing};
 ghost use Rattle.ix_closure.specs.Events.{log_after, handed_by, bank_after, home_for, Event};
 ghost use Rattle.ix_closure.specs.Examples.{alone, a_called, alternatives_claimed, IsUntidy, cycle_begun, cycle_called, cycle_claimed, nothing_begun, nothing_called, nothing_claimed, nothing_closed, nothing_ended};
 ghost use Rattle.ix_closure.specs.Follows.{fact_of, sub_of, arrival, claims_at, claim_for, claims_for, FollowsDesc, FollowsClaim, opened, met_ends, met_edges, claim_of, Follows};
-ghost use Rattle.ix_closure.specs.Laws.{FollowsOnce, EventOnce, RunOnce};
+ghost use Rattle.ix_closure.specs.Laws.{FollowsOnce, FollowsThere, EventOnce, HasMemory, EventThere, RunOnce, ClosureOnce};
 ghost use Rattle.ix_closure.specs.Orders.{EveryOrder};
 ghost use Rattle.ix_closure.specs.Quantity.{same_step, times, gives, givers, step_bound};
 ghost use Rattle.ix_closure.specs.Ready.{HasFurther, HasSlot, IsReady, IsReplaced};
 ghost use Rattle.ix_closure.specs.Runs.{Run, IsReached, IsQuiet};
 ghost use Rattle.ix_closure.specs.Tidy.{IsEmptyOfCalled, IsOwedOnce, IsTidy};
+
+// ---- what a step records and brings
 
 /// A step records a fact of its own kind and with its own numbers, and an arrival records the subtree.
 pub fn steps_have_facts()
@@ -126,10 +128,13 @@ pub fn steps_bring_by_the_log()
     ensures known { ¬ (Follows (only_a (codes "a")) (fact.Desc 1 0 1 ∷ []) (Arrive (sub_of 1 0 0 1)) (Claim 1 0 1 ∷ [])) }
 {}
 
-/// A step brings one list of steps.
+/// A step brings one list of steps, where its slot is there.
 pub fn step_brings_one_list()
-    ensures { FollowsOnce }
+    ensures one { FollowsOnce }
+    ensures some { FollowsThere }
 {}
+
+// ---- a step on its bank
 
 /// The log of its bank has the step's fact behind the others, and what comes with it.
 pub fn step_is_recorded()
@@ -168,6 +173,8 @@ pub fn steps_have_homes()
     ensures of_slot { home_for (cycle []) 4 (Edge 0 3 1 0) ≢ home_for (cycle []) 4 (Claim 1 0 3) }
 {}
 
+// ---- events and choices of them
+
 /// The owed step is taken out and done, and what follows from it is owed.
 pub fn step_is_done()
     ensures done { Event (nothing []) nothing_begun 0 nothing_claimed }
@@ -188,92 +195,17 @@ pub fn any_owed_step_is_done()
     ensures other { ¬ (Event (cycle []) cycle_begun 1 (cycle_claimed (Claim 2 0 0 ∷ Edge 0 0 0 0 ∷ []))) }
 {}
 
-/// An owed step has one outcome.
+/// A step asks for memory of its own bank, and of no other.
+pub fn memory_is_asked_of_the_home()
+    ensures short { HasMemory (nothing []) nothing_begun.banks (Claim 0 0 0) }
+    ensures long { ¬ (HasMemory (nothing []) (alone (replicate (2 ^ 57) (fact.Called 0 0)) 0 []).banks (End 0 0 0)) }
+    ensures other_bank { HasMemory (nothing []) (record { log = nothing_called; handed = 0 } ∷ record { log = replicate (2 ^ 57) (fact.Called 0 1); handed = 0 } ∷ []) (Claim 0 0 0) }
+{}
+
+/// An owed step has one outcome, where there is memory.
 pub fn event_has_one_outcome()
-    ensures { EventOnce }
-{}
-
-/// Choices lead to one state.
-pub fn choices_lead_to_one_state()
-    ensures { RunOnce }
-{}
-
-/// Two steps are the same where their kind and all their numbers are.
-pub fn steps_are_told_apart()
-    ensures same { same_step (End 0 1 2) (End 0 1 2) ≡ true }
-    ensures number { same_step (End 0 1 2) (End 0 1 3) ≡ false }
-    ensures kind { same_step (Claim 0 1 2) (End 0 1 2) ≡ false }
-    ensures pivot { same_step (Arrive (sub_of 1 0 0 1)) (Arrive (sub_of 1 0 1 1)) ≡ false }
-{}
-
-/// A step counts as often as it is owed.
-pub fn owed_steps_are_counted()
-    ensures twice { times (End 0 0 1 ∷ Claim 0 0 0 ∷ End 0 0 1 ∷ []) (End 0 0 1) ≡ 2 }
-    ensures once { times (End 0 0 1 ∷ Claim 0 0 0 ∷ End 0 0 1 ∷ []) (Claim 0 0 0) ≡ 1 }
-    ensures never { times (End 0 0 1 ∷ Claim 0 0 0 ∷ End 0 0 1 ∷ []) (End 0 0 0) ≡ 0 }
-{}
-
-/// A claimed descriptor with its dot at the end of an alternative gives its own cluster an end where the dot stands.
-pub fn claimed_descriptor_gives_an_end()
-    ensures gives { gives (only_a (codes "a")) 0 0 1 (fact.Claim 1 0 1) ≡ true }
-    ensures before_end { gives (only_a (codes "a")) 0 0 0 (fact.Claim 0 0 0) ≡ false }
-    ensures unclaimed { gives (only_a (codes "a")) 0 0 1 (fact.Desc 1 0 1) ≡ false }
-    ensures other_rule { gives (only_a (codes "a")) 1 0 1 (fact.Claim 1 0 1) ≡ false }
-    ensures other_cluster { gives (only_a (codes "a")) 0 1 1 (fact.Claim 1 0 1) ≡ false }
-    ensures other_end { gives (only_a (codes "a")) 0 0 0 (fact.Claim 1 0 1) ≡ false }
-{}
-
-/// Both alternatives of `S: "a"; "a".` give the same end.
-pub fn alternatives_give_one_end()
-    ensures two { givers (two_alternatives (codes "a")) (fact.Claim 0 0 0 ∷ fact.Claim 1 0 1 ∷ fact.Claim 3 0 1 ∷ []) 0 0 1 ≡ 2 }
-    ensures one { givers (two_alternatives (codes "a")) (fact.Claim 0 0 0 ∷ fact.Claim 1 0 1 ∷ fact.Desc 3 0 1 ∷ []) 0 0 1 ≡ 1 }
-    ensures none { givers (two_alternatives (codes "a")) (fact.Claim 0 0 0 ∷ fact.Claim 1 0 1 ∷ fact.Claim 3 0 1 ∷ []) 0 0 0 ≡ 0 }
-{}
-
-/// A descriptor brings its claim and one more step, and each pair of an edge and an end an arrival.
-pub fn facts_bound_the_steps()
-    ensures descriptor { step_bound nothing_closed ≡ 2 }
-    ensures pair { step_bound (fact.Edge 0 0 0 0 ∷ fact.Desc 3 0 1 ∷ fact.Claim 3 0 1 ∷ fact.End 0 0 1 ∷ []) ≡ 3 }
-    ensures no_pair { step_bound (fact.Edge 0 0 0 0 ∷ fact.Desc 3 0 1 ∷ fact.Claim 3 0 1 ∷ fact.End 0 1 1 ∷ []) ≡ 2 }
-    ensures none { step_bound (fact.Called 0 0 ∷ []) ≡ 0 }
-{}
-
-/// Of `S: "a".` the first slot has a next one, the second has its dot at the end, and a third is not there.
-pub fn slot_has_a_next_one()
-    ensures further { HasFurther (only_a []) 0 }
-    ensures at_end { ¬ (HasFurther (only_a []) 1) }
-    ensures not_there { ¬ (HasFurther (only_a []) 2) }
-{}
-
-/// The home of a claim and of an arrival is told by a slot that is there; an edge and an end name their rule.
-pub fn slot_tells_the_home()
-    ensures claim { HasSlot (only_a []) (Claim 1 0 0) }
-    ensures no_claim { ¬ (HasSlot (only_a []) (Claim 2 0 0)) }
-    ensures arrival { HasSlot (only_a []) (Arrive (sub_of 1 0 0 0)) }
-    ensures no_arrival { ¬ (HasSlot (only_a []) (Arrive (sub_of 2 0 0 0))) }
-    ensures edge { HasSlot (only_a []) (Edge 0 0 2 0) }
-    ensures end { HasSlot (only_a []) (End 0 0 2) }
-{}
-
-/// A step can be done where its numbers are in range: positions are in the text, and what is named is there.
-pub fn steps_are_in_range()
-    ensures claim { IsReady (only_a (codes "a")) [] (Claim 0 0 1) }
-    ensures behind_text { ¬ (IsReady (only_a (codes "a")) [] (Claim 0 0 2)) }
-    ensures edge { IsReady (cycle []) [] (Edge 0 0 0 0) }
-    ensures before_terminal { ¬ (IsReady (cycle []) [] (Edge 0 0 2 0)) }
-    ensures other_rule { ¬ (IsReady (cycle []) [] (Edge 1 0 0 0)) }
-    ensures end { IsReady (cycle []) (fact.Edge 0 0 0 0 ∷ []) (End 0 0 1) }
-    ensures no_next { ¬ (IsReady (cycle []) (fact.Edge 0 0 1 0 ∷ []) (End 0 0 1)) }
-    ensures arrival { IsReady (cycle []) [] (Arrive (sub_of 3 0 0 1)) }
-    ensures no_slot { ¬ (IsReady (cycle []) [] (Arrive (sub_of 4 0 0 1))) }
-{}
-
-/// The step is out, and what follows from it is behind the others.
-pub fn step_is_replaced()
-    ensures replaced { IsReplaced (only_a (codes "a")) (fact.Desc 0 0 0 ∷ []) (Claim 0 0 0) (Claim 0 0 0 ∷ End 0 0 0 ∷ []) 0 (End 0 0 0 ∷ Arrive (sub_of 1 0 0 1) ∷ []) }
-    ensures in_front { ¬ (IsReplaced (only_a (codes "a")) (fact.Desc 0 0 0 ∷ []) (Claim 0 0 0) (Claim 0 0 0 ∷ End 0 0 0 ∷ []) 0 (Arrive (sub_of 1 0 0 1) ∷ End 0 0 0 ∷ [])) }
-    ensures still_there { ¬ (IsReplaced (only_a (codes "a")) (fact.Desc 0 0 0 ∷ []) (Claim 0 0 0) (Claim 0 0 0 ∷ End 0 0 0 ∷ []) 0 (Claim 0 0 0 ∷ End 0 0 0 ∷ Arrive (sub_of 1 0 0 1) ∷ [])) }
-    ensures forgotten { ¬ (IsReplaced (only_a (codes "a")) (fact.Desc 0 0 0 ∷ []) (Claim 0 0 0) (Claim 0 0 0 ∷ End 0 0 0 ∷ []) 0 (End 0 0 0 ∷ [])) }
+    ensures one { EventOnce }
+    ensures some { EventThere }
 {}
 
 /// Two steps lead from the start of `S: .` on the empty text to its end, and no choice that is not owed leads anywhere.
@@ -296,6 +228,13 @@ pub fn quiet_state_owes_nothing()
     ensures quiet { IsQuiet nothing_ended }
     ensures not_yet { ¬ (IsQuiet nothing_claimed) }
 {}
+
+/// Choices lead to one state.
+pub fn choices_lead_to_one_state()
+    ensures { RunOnce }
+{}
+
+// ---- steps that follow, and states that owe them
 
 /// A fact is recorded where one of the banks has it.
 pub fn fact_is_recorded_by_a_bank()
@@ -352,6 +291,8 @@ pub fn balanced_state_forgets_nothing()
     ensures end_still { IsBalanced (nothing []) (alone nothing_closed 0 (End 0 0 0 ∷ [])) }
 {}
 
+// ---- the closure
+
 /// A list of the closure has each fact of it and each claim, and none twice, in any order.
 pub fn closure_has_each_fact_once()
     ensures whole { IsClosure (nothing []) nothing_closed }
@@ -361,7 +302,59 @@ pub fn closure_has_each_fact_once()
     ensures no_call { ¬ (IsClosure (nothing []) []) }
     ensures twice { ¬ (IsClosure (nothing []) (nothing_closed ++ fact.End 0 0 0 ∷ [])) }
     ensures one_more { ¬ (IsClosure (nothing []) (nothing_closed ++ fact.Called 0 1 ∷ [])) }
+    // Where the letter does not stand nothing passes it.
+    ensures on_b { IsClosure (only_a (codes "b")) (a_called ++ fact.Claim 0 0 0 ∷ []) }
+    ensures on_a { ¬ (IsClosure (only_a (codes "a")) (a_called ++ fact.Claim 0 0 0 ∷ [])) }
 {}
+
+/// All lists of the closure have the same facts, and as many.
+pub fn closure_is_one()
+    ensures { ClosureOnce }
+{}
+
+// ---- counts
+
+/// Two steps are the same where their kind and all their numbers are.
+pub fn steps_are_told_apart()
+    ensures same { same_step (End 0 1 2) (End 0 1 2) ≡ true }
+    ensures number { same_step (End 0 1 2) (End 0 1 3) ≡ false }
+    ensures kind { same_step (Claim 0 1 2) (End 0 1 2) ≡ false }
+    ensures pivot { same_step (Arrive (sub_of 1 0 0 1)) (Arrive (sub_of 1 0 1 1)) ≡ false }
+{}
+
+/// A step counts as often as it is owed.
+pub fn owed_steps_are_counted()
+    ensures twice { times (End 0 0 1 ∷ Claim 0 0 0 ∷ End 0 0 1 ∷ []) (End 0 0 1) ≡ 2 }
+    ensures once { times (End 0 0 1 ∷ Claim 0 0 0 ∷ End 0 0 1 ∷ []) (Claim 0 0 0) ≡ 1 }
+    ensures never { times (End 0 0 1 ∷ Claim 0 0 0 ∷ End 0 0 1 ∷ []) (End 0 0 0) ≡ 0 }
+{}
+
+/// A claimed descriptor with its dot at the end of an alternative gives its own cluster an end where the dot stands.
+pub fn claimed_descriptor_gives_an_end()
+    ensures gives { gives (only_a (codes "a")) 0 0 1 (fact.Claim 1 0 1) ≡ true }
+    ensures before_end { gives (only_a (codes "a")) 0 0 0 (fact.Claim 0 0 0) ≡ false }
+    ensures unclaimed { gives (only_a (codes "a")) 0 0 1 (fact.Desc 1 0 1) ≡ false }
+    ensures other_rule { gives (only_a (codes "a")) 1 0 1 (fact.Claim 1 0 1) ≡ false }
+    ensures other_cluster { gives (only_a (codes "a")) 0 1 1 (fact.Claim 1 0 1) ≡ false }
+    ensures other_end { gives (only_a (codes "a")) 0 0 0 (fact.Claim 1 0 1) ≡ false }
+{}
+
+/// Both alternatives of `S: "a"; "a".` give the same end.
+pub fn alternatives_give_one_end()
+    ensures two { givers (two_alternatives (codes "a")) (fact.Claim 0 0 0 ∷ fact.Claim 1 0 1 ∷ fact.Claim 3 0 1 ∷ []) 0 0 1 ≡ 2 }
+    ensures one { givers (two_alternatives (codes "a")) (fact.Claim 0 0 0 ∷ fact.Claim 1 0 1 ∷ fact.Desc 3 0 1 ∷ []) 0 0 1 ≡ 1 }
+    ensures none { givers (two_alternatives (codes "a")) (fact.Claim 0 0 0 ∷ fact.Claim 1 0 1 ∷ fact.Claim 3 0 1 ∷ []) 0 0 0 ≡ 0 }
+{}
+
+/// A descriptor brings its claim and one more step, and each pair of an edge and an end an arrival.
+pub fn facts_bound_the_steps()
+    ensures descriptor { step_bound nothing_closed ≡ 2 }
+    ensures pair { step_bound (fact.Edge 0 0 0 0 ∷ fact.Desc 3 0 1 ∷ fact.Claim 3 0 1 ∷ fact.End 0 0 1 ∷ []) ≡ 3 }
+    ensures no_pair { step_bound (fact.Edge 0 0 0 0 ∷ fact.Desc 3 0 1 ∷ fact.Claim 3 0 1 ∷ fact.End 0 1 1 ∷ []) ≡ 2 }
+    ensures none { step_bound (fact.Called 0 0 ∷ []) ≡ 0 }
+{}
+
+// ---- tidy states, and every order
 
 /// The empty subtree of an empty alternative stands where its rule is called.
 pub fn empty_subtree_is_of_a_call()
@@ -414,4 +407,44 @@ pub fn every_order_ends_in_the_closure()
     ensures cycle { EveryOrder (cycle []) cycle_begun }
     ensures forgotten { ¬ (EveryOrder (nothing []) (alone nothing_called 0 [])) }
     ensures twice { ¬ (EveryOrder (nothing []) (alone nothing_called 0 (Claim 0 0 0 ∷ Claim 0 0 0 ∷ []))) }
+{}
+
+// ---- what the code of a step asks and gives
+
+/// Of `S: "a".` the first slot has a next one, the second has its dot at the end, and a third is not there.
+pub fn slot_has_a_next_one()
+    ensures further { HasFurther (only_a []) 0 }
+    ensures at_end { ¬ (HasFurther (only_a []) 1) }
+    ensures not_there { ¬ (HasFurther (only_a []) 2) }
+{}
+
+/// The home of a claim and of an arrival is told by a slot that is there; an edge and an end name their rule.
+pub fn slot_tells_the_home()
+    ensures claim { HasSlot (only_a []) (Claim 1 0 0) }
+    ensures no_claim { ¬ (HasSlot (only_a []) (Claim 2 0 0)) }
+    ensures arrival { HasSlot (only_a []) (Arrive (sub_of 1 0 0 0)) }
+    ensures no_arrival { ¬ (HasSlot (only_a []) (Arrive (sub_of 2 0 0 0))) }
+    ensures edge { HasSlot (only_a []) (Edge 0 0 2 0) }
+    ensures end { HasSlot (only_a []) (End 0 0 2) }
+{}
+
+/// A step can be done where its numbers are in range: positions are in the text, and what is named is there.
+pub fn steps_are_in_range()
+    ensures claim { IsReady (only_a (codes "a")) [] (Claim 0 0 1) }
+    ensures behind_text { ¬ (IsReady (only_a (codes "a")) [] (Claim 0 0 2)) }
+    ensures edge { IsReady (cycle []) [] (Edge 0 0 0 0) }
+    ensures before_terminal { ¬ (IsReady (cycle []) [] (Edge 0 0 2 0)) }
+    ensures other_rule { ¬ (IsReady (cycle []) [] (Edge 1 0 0 0)) }
+    ensures end { IsReady (cycle []) (fact.Edge 0 0 0 0 ∷ []) (End 0 0 1) }
+    ensures no_next { ¬ (IsReady (cycle []) (fact.Edge 0 0 1 0 ∷ []) (End 0 0 1)) }
+    ensures arrival { IsReady (cycle []) [] (Arrive (sub_of 3 0 0 1)) }
+    ensures no_slot { ¬ (IsReady (cycle []) [] (Arrive (sub_of 4 0 0 1))) }
+{}
+
+/// The step is out, and what follows from it is behind the others.
+pub fn step_is_replaced()
+    ensures replaced { IsReplaced (only_a (codes "a")) (fact.Desc 0 0 0 ∷ []) (Claim 0 0 0) (Claim 0 0 0 ∷ End 0 0 0 ∷ []) 0 (End 0 0 0 ∷ Arrive (sub_of 1 0 0 1) ∷ []) }
+    ensures in_front { ¬ (IsReplaced (only_a (codes "a")) (fact.Desc 0 0 0 ∷ []) (Claim 0 0 0) (Claim 0 0 0 ∷ End 0 0 0 ∷ []) 0 (Arrive (sub_of 1 0 0 1) ∷ End 0 0 0 ∷ [])) }
+    ensures still_there { ¬ (IsReplaced (only_a (codes "a")) (fact.Desc 0 0 0 ∷ []) (Claim 0 0 0) (Claim 0 0 0 ∷ End 0 0 0 ∷ []) 0 (Claim 0 0 0 ∷ End 0 0 0 ∷ Arrive (sub_of 1 0 0 1) ∷ [])) }
+    ensures forgotten { ¬ (IsReplaced (only_a (codes "a")) (fact.Desc 0 0 0 ∷ []) (Claim 0 0 0) (Claim 0 0 0 ∷ End 0 0 0 ∷ []) 0 (End 0 0 0 ∷ [])) }
 {}

@@ -2,11 +2,13 @@ use Rattle.std.proofs.Common.{rules, zero, suc, [], ◌∷◌, ◌++◌, Contain
 use Rattle.std.specs.List.{IsDistinct}
 use Rattle.ix_model.specs.ExamplePlans.{nothing}
 use Rattle.ix_model.proofs.ClosedWithin.{called_within}
+use Rattle.ix_model.proofs.SmallClosures.{part_1}
 use Rattle.ix_cluster.specs.declared.fact.Fact.{Fact}
-use Rattle.ix_cluster.specs.declared.fact.Fact.TheVariants.{Called, Claim, End}
+use Rattle.ix_cluster.specs.declared.fact.Fact.TheVariants.{Called, Claim, End, Part}
 use Rattle.ix_cluster.proofs.Members.{none_has}
-use Rattle.ix_closure.specs.Examples.{nothing_called, nothing_closed}
-use Rattle.ix_closure.proofs.SmallStates.{nothing_closure}
+use Rattle.ix_closure.specs.Examples.{a_called, nothing_called, nothing_closed}
+use Rattle.ix_closure.specs.Follows.{sub_of}
+use Rattle.ix_closure.proofs.SmallStates.{b_closure, nothing_closure}
 use Rattle.ix_closure.proofs.SmallSteps.{nothing_planned}
 use Rattle.ix_closure.proofs.laws.closure_has_each_fact_once.Goals as goal
 
@@ -32,6 +34,9 @@ end_left_out = search rules
 claim_left_out : Contains (nothing_called ++ End 0 0 0 ∷ []) (Claim 0 0 0) → ⊥
 claim_left_out = search rules
 
+part_left_out : Contains (a_called ++ Claim 0 0 0 ∷ []) (Part (sub_of 1 0 0 1)) → ⊥
+part_left_out = search rules
+
 pub returns-clause-whole : goal.returns-clause-whole
 returns-clause-whole c = nothing_closure
 
@@ -54,3 +59,9 @@ returns-clause-twice c = λ h. cc h.once.1.1.1.1.0.0
 
 pub returns-clause-one_more : goal.returns-clause-one_more
 returns-clause-one_more c = λ h. omega (arith, (called_within (nothing []) nothing_planned 0 1 (h.closed (Called 0 1) (5, omega arith, refl))).1)
+
+pub returns-clause-on_b : goal.returns-clause-on_b
+returns-clause-on_b c = b_closure
+
+pub returns-clause-on_a : goal.returns-clause-on_a
+returns-clause-on_a c = λ h. part_left_out (h.all (Part (sub_of 1 0 0 1)) part_1)
