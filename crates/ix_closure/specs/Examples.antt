@@ -14,6 +14,10 @@ use Rattle.ix_closure.specs.Tidy.{IsTidy}
 abbrev pub alone : List Fact → ℕ → List Owed → State
 alone log handed owed = record { banks = record { log = log; handed = handed } ∷ []; owed = owed }
 
+-- two banks with these logs, of which no pair was handed out, and what is owed
+abbrev pub two_banks : List Fact → List Fact → List Owed → State
+two_banks first second owed = record { banks = record { log = first; handed = 0 } ∷ record { log = second; handed = 0 } ∷ []; owed = owed }
+
 -- the state is balanced, and yet not tidy
 abbrev pub IsUntidy : Parts → State → Type 0
 IsUntidy plan state = IsBalanced plan state × ¬ (IsTidy plan state)

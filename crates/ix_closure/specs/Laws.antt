@@ -1,16 +1,18 @@
 -- Laws of steps and of the closure: what a step brings and leads to is one thing, and so are the end of a list of choices
--- and the closure.
+-- and the closure; and what follows stays in the closure and in balance.
 use Rattle.std.specs.Prelude.{◌≡◌, ℕ, ◌+◌, ◌<◌, ◌^◌, ◌↔◌, List, length, Contains, Some, slice_get}
 use Rattle.ix_model.specs.Parts.{Parts}
 use Rattle.ix_model.specs.Planned.{IsPlanned}
 use Rattle.ix_cluster.specs.declared.fact.Fact.{Fact}
+use Rattle.ix_cluster.specs.ClosedFacts.{IsInClosed}
 use Rattle.ix_cluster.specs.Room.{unclaimed_in}
 use Rattle.ix_cluster.specs.Seen.{Bank}
 use Rattle.ix_closure.specs.declared.owed.Owed.{Owed}
 use Rattle.ix_closure.specs.Balance.{IsBalanced}
 use Rattle.ix_closure.specs.Closure.{IsClosure}
+use Rattle.ix_closure.specs.Due.{IsDue}
 use Rattle.ix_closure.specs.Events.{Event, home_for, log_after}
-use Rattle.ix_closure.specs.Follows.{Follows}
+use Rattle.ix_closure.specs.Follows.{fact_of, Follows}
 use Rattle.ix_closure.specs.Ready.{HasSlot}
 use Rattle.ix_closure.specs.Runs.{Run}
 use Rattle.ix_closure.specs.Seen.{State}
@@ -39,6 +41,14 @@ EventThere = (plan : Parts) → IsPlanned plan → (old : State) → IsBalanced 
 -- choices lead to no two states
 abbrev pub RunOnce : Type 0
 RunOnce = (plan : Parts) → IsPlanned plan → (first : State) (choices : List ℕ) (a b : State) → Run plan first choices a → Run plan first choices b → a ≡ b
+
+-- a step that follows from facts of the closure records one
+abbrev pub DueIsClosed : Type 0
+DueIsClosed = (plan : Parts) (facts : List Fact) → ((f : Fact) → Contains facts f → IsInClosed plan f) → (step : Owed) → IsDue plan (Contains facts) step → IsInClosed plan (fact_of step)
+
+-- a step of a balanced state leads to a balanced state
+abbrev pub EventKeepsBalance : Type 0
+EventKeepsBalance = (plan : Parts) → IsPlanned plan → (old : State) (n : ℕ) (new : State) → IsBalanced plan old → Event plan old n new → IsBalanced plan new
 
 -- lists of the closure have the same facts, and as many
 abbrev pub ClosureOnce : Type 0

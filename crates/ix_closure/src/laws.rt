@@ -9,9 +9,9 @@ ghost use Rattle.ix_closure.specs.Balance.{IsBalanced};
 ghost use Rattle.ix_closure.specs.Closure.{IsClosure};
 ghost use Rattle.ix_closure.specs.Due.{IsRecorded, IsDue, FollowsIn, IsMissing};
 ghost use Rattle.ix_closure.specs.Events.{log_after, handed_by, bank_after, home_for, Event};
-ghost use Rattle.ix_closure.specs.Examples.{alone, a_called, alternatives_claimed, IsUntidy, cycle_begun, cycle_called, cycle_claimed, nothing_begun, nothing_called, nothing_claimed, nothing_closed, nothing_ended};
+ghost use Rattle.ix_closure.specs.Examples.{alone, a_called, alternatives_claimed, IsUntidy, cycle_begun, cycle_called, cycle_claimed, nothing_begun, nothing_called, nothing_claimed, nothing_closed, nothing_ended, two_banks};
 ghost use Rattle.ix_closure.specs.Follows.{fact_of, sub_of, arrival, claims_at, claim_for, claims_for, FollowsDesc, FollowsClaim, opened, met_ends, met_edges, claim_of, Follows};
-ghost use Rattle.ix_closure.specs.Laws.{FollowsOnce, FollowsThere, EventOnce, HasMemory, EventThere, RunOnce, ClosureOnce};
+ghost use Rattle.ix_closure.specs.Laws.{FollowsOnce, FollowsThere, EventOnce, HasMemory, EventThere, RunOnce, DueIsClosed, EventKeepsBalance, ClosureOnce};
 ghost use Rattle.ix_closure.specs.Orders.{EveryOrder};
 ghost use Rattle.ix_closure.specs.Quantity.{same_step, times, gives, givers, step_bound};
 ghost use Rattle.ix_closure.specs.Ready.{HasFurther, HasSlot, IsReady, IsReplaced};
@@ -195,11 +195,18 @@ pub fn any_owed_step_is_done()
     ensures other { ¬ (Event (cycle []) cycle_begun 1 (cycle_claimed (Claim 2 0 0 ∷ Edge 0 0 0 0 ∷ []))) }
 {}
 
+/// The step is done on its own bank, and the other banks stay.
+pub fn own_bank_does_the_step()
+    ensures own { Event (nothing []) (two_banks [] [] (End 0 1 1 ∷ [])) 0 (two_banks [] (fact.End 0 1 1 ∷ []) []) }
+    ensures other { ¬ (Event (nothing []) (two_banks [] [] (End 0 1 1 ∷ [])) 0 (two_banks (fact.End 0 1 1 ∷ []) [] [])) }
+    ensures both { ¬ (Event (nothing []) (two_banks [] [] (End 0 1 1 ∷ [])) 0 (two_banks (fact.End 0 1 1 ∷ []) (fact.End 0 1 1 ∷ []) [])) }
+{}
+
 /// A step asks for memory of its own bank, and of no other.
 pub fn memory_is_asked_of_the_home()
     ensures short { HasMemory (nothing []) nothing_begun.banks (Claim 0 0 0) }
     ensures long { ¬ (HasMemory (nothing []) (alone (replicate (2 ^ 57) (fact.Called 0 0)) 0 []).banks (End 0 0 0)) }
-    ensures other_bank { HasMemory (nothing []) (record { log = nothing_called; handed = 0 } ∷ record { log = replicate (2 ^ 57) (fact.Called 0 1); handed = 0 } ∷ []) (Claim 0 0 0) }
+    ensures other_bank { HasMemory (nothing []) (two_banks nothing_called (replicate (2 ^ 57) (fact.Called 0 1)) []).banks (Claim 0 0 0) }
 {}
 
 /// An owed step has one outcome, where there is memory.
@@ -238,8 +245,8 @@ pub fn choices_lead_to_one_state()
 
 /// A fact is recorded where one of the banks has it.
 pub fn fact_is_recorded_by_a_bank()
-    ensures second { IsRecorded (record { log = []; handed = 0 } ∷ record { log = fact.Called 0 1 ∷ []; handed = 0 } ∷ []) (fact.Called 0 1) }
-    ensures other { ¬ (IsRecorded (record { log = []; handed = 0 } ∷ record { log = fact.Called 0 1 ∷ []; handed = 0 } ∷ []) (fact.Called 0 0)) }
+    ensures second { IsRecorded (two_banks [] (fact.Called 0 1 ∷ []) []).banks (fact.Called 0 1) }
+    ensures other { ¬ (IsRecorded (two_banks [] (fact.Called 0 1 ∷ []) []).banks (fact.Called 0 0)) }
 {}
 
 /// A descriptor is to be claimed, and a claimed one passes a terminal that stands there. One that is not claimed passes none.
@@ -275,6 +282,11 @@ pub fn end_is_missing_until_it_is_recorded()
     ensures recorded { ¬ (IsMissing (nothing []) nothing_ended.banks (End 0 0 0)) }
 {}
 
+/// What follows from facts of the closure is in the closure.
+pub fn what_follows_is_in_the_closure()
+    ensures { DueIsClosed }
+{}
+
 /// A balanced state forgets no step that is missing, and owes none without a cause.
 pub fn balanced_state_forgets_nothing()
     ensures begun { IsBalanced (nothing []) nothing_begun }
@@ -289,6 +301,11 @@ pub fn balanced_state_forgets_nothing()
     // How often a step is owed it does not ask, nor whether its fact is there.
     ensures twice { IsBalanced (nothing []) (alone nothing_called 0 (Claim 0 0 0 ∷ Claim 0 0 0 ∷ [])) }
     ensures end_still { IsBalanced (nothing []) (alone nothing_closed 0 (End 0 0 0 ∷ [])) }
+{}
+
+/// A step of a balanced state leads to a balanced state.
+pub fn events_keep_balance()
+    ensures { EventKeepsBalance }
 {}
 
 // ---- the closure
