@@ -1,16 +1,73 @@
--- A small plan that the tests speak of.
-use Rattle.std.specs.Prelude.{ℕ, List, [], ◌∷◌, codes}
-use Rattle.ix_model.specs.declared.grammar.Mark.TheVariants.{Element}
-use Rattle.ix_model.specs.declared.plan.SlotInfo.{SlotInfo}
-use Rattle.ix_model.specs.declared.rules.Kind.TheVariants.{Named}
-use Rattle.ix_model.specs.declared.rules.Line.{Line}
-use Rattle.ix_model.specs.declared.rules.Terminal.TheVariants.{Lit}
+-- Small states of the core, of which the worked examples speak.
+use Rattle.std.specs.Prelude.{ℕ, List, [], ◌∷◌, ◌++◌}
 use Rattle.ix_model.specs.Parts.{Parts}
+use Rattle.ix_cluster.specs.declared.fact.Fact.{Fact}
+use Rattle.ix_cluster.specs.declared.fact.Fact.TheVariants as fact
+use Rattle.ix_closure.specs.declared.owed.Owed.{Owed}
+use Rattle.ix_closure.specs.declared.owed.Owed.TheVariants.{Claim, End}
+use Rattle.ix_closure.specs.Balance.{IsBalanced}
+use Rattle.ix_closure.specs.Follows.{sub_of}
+use Rattle.ix_closure.specs.Seen.{State}
+use Rattle.ix_closure.specs.Tidy.{IsTidy}
 
--- one rule E of these alternatives, with the literals "1" and "+"
-abbrev pub one_rule : List Line → List SlotInfo → List ℕ → Parts
-one_rule lines slots text = record {
-  rules = record { names = codes "E" ∷ []; marks = Element ∷ []; flats = record { kind = Named; lines = lines } ∷ []; terminals = Lit (codes "1") ∷ Lit (codes "+") ∷ []; inserts = [] };
-  slots = slots;
-  text = text;
-}
+-- one bank with this log, of which so many pairs were handed out, and what is owed
+abbrev pub alone : List Fact → ℕ → List Owed → State
+alone log handed owed = record { banks = record { log = log; handed = handed } ∷ []; owed = owed }
+
+-- two banks with these logs, of which no pair was handed out, and what is owed
+abbrev pub two_banks : List Fact → List Fact → List Owed → State
+two_banks first second owed = record { banks = record { log = first; handed = 0 } ∷ record { log = second; handed = 0 } ∷ []; owed = owed }
+
+-- the state is balanced, and yet not tidy
+abbrev pub IsUntidy : Parts → State → Type 0
+IsUntidy plan state = IsBalanced plan state × ¬ (IsTidy plan state)
+
+-- ---- S: .   on the empty text
+
+-- the first call, with its alternative and the empty subtree
+abbrev pub nothing_called : List Fact
+nothing_called = fact.Called 0 0 ∷ fact.Desc 0 0 0 ∷ fact.Part (sub_of 0 0 0 0) ∷ []
+
+-- the whole closure
+abbrev pub nothing_closed : List Fact
+nothing_closed = nothing_called ++ fact.Claim 0 0 0 ∷ fact.End 0 0 0 ∷ []
+
+-- the state at the start, after the claim, and after the end
+abbrev pub nothing_begun : State
+nothing_begun = alone nothing_called 0 (Claim 0 0 0 ∷ [])
+
+abbrev pub nothing_claimed : State
+nothing_claimed = alone (nothing_called ++ fact.Claim 0 0 0 ∷ []) 0 (End 0 0 0 ∷ [])
+
+abbrev pub nothing_ended : State
+nothing_ended = alone nothing_closed 0 []
+
+-- ---- S: S; "a".   on the empty text
+
+-- the first call, with its two alternatives
+abbrev pub cycle_called : List Fact
+cycle_called = fact.Called 0 0 ∷ fact.Desc 0 0 0 ∷ fact.Desc 2 0 0 ∷ []
+
+-- the state at the start
+abbrev pub cycle_begun : State
+cycle_begun = alone cycle_called 0 (Claim 0 0 0 ∷ Claim 2 0 0 ∷ [])
+
+-- the state after the first claim, with the owed steps behind
+abbrev pub cycle_claimed : List Owed → State
+cycle_claimed owed = alone (cycle_called ++ fact.Claim 0 0 0 ∷ []) 0 owed
+
+-- ---- S: "a".   on `a`
+
+-- the first call, with its alternative
+abbrev pub a_called : List Fact
+a_called = fact.Called 0 0 ∷ fact.Desc 0 0 0 ∷ []
+
+-- ---- S: "a"; "a".   on `a`
+
+-- the state in which both alternatives have passed the letter and are claimed behind it
+abbrev pub alternatives_claimed : State
+alternatives_claimed =
+    alone (
+    fact.Called 0 0 ∷ fact.Desc 0 0 0 ∷ fact.Desc 2 0 0 ∷ fact.Claim 0 0 0 ∷ fact.Claim 2 0 0 ∷ fact.Part (sub_of 1 0 0 1) ∷ fact.Desc 1 0 1 ∷
+    fact.Part (sub_of 3 0 0 1) ∷ fact.Desc 3 0 1 ∷ fact.Claim 1 0 1 ∷ fact.Claim 3 0 1 ∷ []
+    ) 0 (End 0 0 1 ∷ End 0 0 1 ∷ [])

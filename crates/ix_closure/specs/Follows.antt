@@ -1,5 +1,6 @@
 -- What a step records, and which steps it brings. It is this project's own order of work over the closure's rules.
-use Rattle.std.specs.Prelude.{◌≡◌, ℕ, ◌+◌, Bool, List, [], ◌∷◌, ◌++◌, map, Option, if◌then◌else◌}
+use Rattle.std.specs.Prelude.{◌≡◌, ℕ, ◌+◌, Bool, List, [], ◌∷◌, ◌++◌, map, Option, None, Some, if◌then◌else◌}
+use Rattle.std.specs.List.{filter_map}
 use Rattle.ix_model.specs.declared.grammar.Mark.{Mark}
 use Rattle.ix_model.specs.declared.rules.Sym.{Sym}
 use Rattle.ix_model.specs.declared.rules.Sym.TheVariants as sym
@@ -38,6 +39,15 @@ arrival k e edge = Arrive (sub_of (edge.slot + 1) edge.left k e)
 -- a claim for each of the first slots at k
 abbrev pub claims_at : ℕ → List ℕ → List Owed
 claims_at k firsts = map (λ s. Claim s k k) firsts
+
+-- the claim of the descriptor that the fact is
+abbrev pub claim_for : Fact → Option Owed
+claim_for (fact.Desc s l p) = Some (Claim s l p)
+claim_for _ = None
+
+-- a claim for each descriptor among the facts, in their order
+abbrev pub claims_for : List Fact → List Owed
+claims_for facts = filter_map claim_for facts
 
 module _ (plan : Parts) (s l p : ℕ) where
   -- what a descriptor brings that was claimed now

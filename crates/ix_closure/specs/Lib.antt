@@ -4,9 +4,11 @@ pub mod Due
 pub mod Events
 pub mod Examples
 pub mod Follows
+pub mod Laws
 pub mod Orders
 pub mod Quantity
 pub mod Ready
 pub mod Runs
 pub mod Seen
+pub mod TestPlans
 pub mod Tidy

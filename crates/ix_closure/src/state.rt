@@ -8,7 +8,7 @@ ghost use Rattle.ix_cluster.specs.Sound.{AreSound};
 ghost use Rattle.ix_closure.specs.Balance.{IsBalanced};
 ghost use Rattle.ix_closure.specs.Closure.{IsClosure};
 ghost use Rattle.ix_closure.specs.Events.{Event};
-ghost use Rattle.ix_closure.specs.Follows.{claims_at};
+ghost use Rattle.ix_closure.specs.Follows.{claims_at, claims_for};
 ghost use Rattle.ix_closure.specs.Orders.{EveryOrder};
 ghost use Rattle.ix_closure.specs.Runs.{IsReached};
 
@@ -55,6 +55,7 @@ impl<'p> Core<'p> {
         ensures plan { IfOk result (λ core. core.plan ≡ plan.now) }
         ensures banks { IfOk result (λ core. core.state.banks ≡ opening plan.now 1) }
         ensures owed { IfOk result (λ core. core.state.owed ≡ claims_at 0 (firsts_of plan.now 0)) }
+        ensures in_order { IfOk result (λ core. core.state.owed ≡ claims_for (facts_of core.state.banks)) }
         // Whatever owed step is done next, the end is the closure.
         ensures orders { IfOk result (λ core. EveryOrder plan.now core.state) }
     {

@@ -3,7 +3,7 @@ ghost use Rattle.ix_model.specs.Expanded.{line as a_line};
 ghost use Rattle.ix_model.specs.Numbering.{slot};
 ghost use Rattle.ix_model.specs.Planned.{IsPlanned};
 ghost use Rattle.ix_model.specs.ExamplePlans.{literal};
-ghost use Rattle.ix_closure.specs.Examples.{one_rule};
+ghost use Rattle.ix_closure.specs.TestPlans.{one_rule};
 
 use crate::{Core, Owed};
 use ix_cluster::{Banks, Fact};

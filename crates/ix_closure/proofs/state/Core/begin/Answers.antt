@@ -1,5 +1,6 @@
 use Rattle.std.proofs.Common.{rules}
 use Rattle.ix_closure.proofs.EveryOrder.{every_order}
+use Rattle.ix_closure.proofs.FirstClaims.{opening_in_order}
 use Rattle.ix_closure.proofs.OpeningBalance.{opening_balanced}
 use Rattle.ix_closure.proofs.state.Core.begin.Goals as goal
 
@@ -12,3 +13,8 @@ pub returns-clause-orders : goal.returns-clause-orders
 returns-clause-orders c =
     every_order c.args.plan.now c.slot_count.ensures.planned (record { banks = c.in_ok-banks.banks.banks.items; owed = c.push_claims.new.owed.items })
     c.in_ok-banks.ensures.opening (search rules) c.in_ok-banks.ensures.sound
+
+pub returns-clause-in_order : goal.returns-clause-in_order
+returns-clause-in_order c =
+    opening_in_order c.args.plan.now c.slot_count.ensures.planned (record { banks = c.in_ok-banks.banks.banks.items; owed = c.push_claims.new.owed.items })
+    c.in_ok-banks.ensures.opening (search rules)
