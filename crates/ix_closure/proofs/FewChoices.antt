@@ -1,7 +1,9 @@
 -- A list of choices is no longer than twice the descriptors of the closure, and its pairs of an edge and an end.
 use Rattle.std.proofs.Common.{◌≡◌, ℕ, zero, suc, ◌+◌, ◌≤◌, Bool, true, false, List, [], ◌∷◌, length, length-append, remove, Contains, Some, slice_get, slice_set, refl, sym, ap, ◌∙◌, subst, arith, true≢false}
 use Rattle.std.proofs.lemmas.List.{length-map}
+use Rattle.std.proofs.lemmas.List.Edits.{length-remove}
 use Rattle.std.proofs.lemmas.List.FromFn.{length-map-range_with_len}
+use Rattle.std.proofs.lemmas.Option.{slice_get_within}
 use Rattle.ix_model.specs.Numbered.{lines_at}
 use Rattle.ix_model.specs.Parts.{Parts}
 use Rattle.ix_model.specs.Planned.{IsPlanned}
@@ -36,12 +38,6 @@ weight_set [] m bank new e = absurd (cc e)
 weight_set (b ∷ banks) zero bank new e = let same : b ≡ bank = cc e in omega (arith, ap (λ (x : Bank). weight x.log) same)
 weight_set (b ∷ banks) (suc m) bank new e = omega (arith, weight_set banks m bank new e)
 
--- one fewer is left
-length_removed : {X : Type 0} (xs : List X) (n : ℕ) (x : X) → slice_get xs n ≡ Some x → length (remove xs n) + 1 ≡ length xs
-length_removed [] n x e = absurd (cc e)
-length_removed (y ∷ ys) zero x e = omega arith
-length_removed (y ∷ ys) (suc n) x e = omega (arith, length_removed ys n x e)
-
 module _ (plan : Parts) (planned : IsPlanned plan) where
   -- what is among the first slots of a rule is one of its alternatives'
   first_of : (r s : ℕ) → Contains (firsts_of plan r) s → IsFirst plan s r
@@ -74,7 +70,7 @@ module _ (plan : Parts) (planned : IsPlanned plan) where
         arith,
         ap length event.owed,
         length-append (remove old.owed n) event.more,
-        length_removed old.owed n event.step event.taken,
+        length-remove old.owed n (slice_get_within old.owed n event.step event.taken),
         step_paid plan planned event.bank.log (tidy_fresh old tidy m event.bank event.there) event.step event.more event.follows,
         ap weight_in event.done,
         weight_set old.banks m event.bank (bank_after plan event.bank event.step) event.there,

@@ -3,7 +3,9 @@ use Rattle.std.proofs.Common.{◌≡◌, ℕ, ◌+◌, ◌-◌, ◌*◌, ◌≤�
 use Rattle.std.specs.List.{count_by}
 use Rattle.std.proofs.Math.Nat.{mul-le-mul_right}
 use Rattle.std.proofs.lemmas.List.Concat.{flat_map-cons}
+use Rattle.std.proofs.lemmas.List.Edits.{length-remove}
 use Rattle.std.proofs.lemmas.List.Recursion.{is_count_by}
+use Rattle.std.proofs.lemmas.Option.{slice_get_within}
 use Rattle.ix_model.specs.declared.sub.Sub.{Sub}
 use Rattle.ix_model.specs.Parts.{Parts}
 use Rattle.ix_cluster.specs.declared.answers.Arrived.TheVariants.{Fresh, Known}
@@ -76,11 +78,6 @@ progress plan log (Arrive sub) more follows = elim (by (has log (fact.Desc sub.s
 
 -- ---- all banks
 
-pub length_remove : {X : Type 0} (xs : List X) (n : ℕ) (y : X) → slice_get xs n ≡ Some y → length (remove xs n) + 1 ≡ length xs
-length_remove [] n y e = absurd (cc)
-length_remove (x ∷ xs) zero y e = omega arith
-length_remove (x ∷ xs) (suc n) y e = omega (arith, length_remove xs n y e)
-
 all_facts : (bank : Bank) (banks : List Bank) → length (facts_of (bank ∷ banks)) ≡ length bank.log + length (facts_of banks)
 all_facts bank banks = ap length (flat_map-cons (λ (b : Bank). b.log) bank banks) ∙ length-append bank.log (facts_of banks)
 
@@ -105,7 +102,7 @@ event_shrinks plan old new n event =
     let all = ap (λ (z : List Bank). length (facts_of z)) event.done in
     elim (progress plan event.bank.log event.step event.more event.follows) [
         inl h ↦ inl (omega (arith, all, set, h))
-      | inr h ↦ inr (omega (arith, all, set, h.0), omega (arith, ap length event.owed, ap (λ (z : List Owed). length (remove old.owed n ++ z)) h.1, ap length (append-nil (remove old.owed n)), length_remove old.owed n event.step event.taken))
+      | inr h ↦ inr (omega (arith, all, set, h.0), omega (arith, ap length event.owed, ap (λ (z : List Owed). length (remove old.owed n ++ z)) h.1, ap length (append-nil (remove old.owed n)), length-remove old.owed n (slice_get_within old.owed n event.step event.taken)))
       ]
 
 -- the room that is left for facts counts most, and then the number of owed steps

@@ -1,6 +1,7 @@
 -- What several banks have recorded, and how a step of one of them changes it.
 use Rattle.std.proofs.Common.{◌≡◌, ℕ, ◌<◌, ◌≤◌, List, Contains, length, Some, slice_get, slice_set, refl, sym, ap, ◌∙◌, subst, ◌⊎◌, inl, inr, arith}
-use Rattle.std.proofs.lemmas.Bool.Decides.{nat_tests}
+use Rattle.std.proofs.lemmas.Bool.{cases_eq}
+use Rattle.std.proofs.lemmas.List.{length-set}
 use Rattle.ix_model.specs.Parts.{Parts}
 use Rattle.ix_cluster.specs.declared.fact.Fact.{Fact}
 use Rattle.ix_cluster.specs.ClosedFacts.{IsInClosed}
@@ -9,7 +10,7 @@ use Rattle.ix_cluster.specs.Seen.{Bank}
 use Rattle.ix_cluster.specs.Sound.{IsSound, AreSound}
 use Rattle.ix_closure.specs.Due.{IsRecorded}
 use Rattle.ix_closure.proofs.Members.{nth_has, place_in, flat_has, flat_from}
-use Rattle.ix_closure.proofs.Sets.{length_set, set_there, set_other, set_from}
+use Rattle.ix_closure.proofs.Sets.{set_there, set_other, set_from}
 
 -- a bank went from one log to another; the facts of which it is the home are Mine, and Before and After hold of what all
 -- banks have recorded before and after
@@ -19,9 +20,6 @@ pub record Moves (Mine Before After : Fact → Type 0) (old new : List Fact) : T
   pub from : (f : Fact) → After f → Before f ⊎ Contains new f
   pub back : (f : Fact) → Contains old f → Before f
   pub here : (f : Fact) → Mine f → Before f → Contains old f
-
-pub same_or_not : (m n : ℕ) → (m ≡ n) ⊎ (m ≡ n → ⊥)
-same_or_not m n = grind (arith, nat_tests)
 
 -- one of the banks has the fact
 pub recorded_by : (banks : List Bank) (n : ℕ) (bank : Bank) (f : Fact) → slice_get banks n ≡ Some bank → Contains bank.log f → IsRecorded banks f
@@ -49,16 +47,16 @@ module _ (plan : Parts) (banks : List Bank) (sound : AreSound plan banks) where
     -- the banks after one of them changed are sound
     pub set_sound : AreSound plan (slice_set banks m new)
     set_sound = record {
-      some = subst (λ n. 0 < n) (sym (length_set banks m new)) sound.some;
-      few = subst (λ n. n ≤ 64) (sym (length_set banks m new)) sound.few;
-      each = λ n b e. subst (λ count. IsSound plan count n b) (sym (length_set banks m new)) (elim (set_from banks m n new b e) [
+      some = subst (λ n. 0 < n) (sym (length-set banks m new)) sound.some;
+      few = subst (λ n. n ≤ 64) (sym (length-set banks m new)) sound.few;
+      each = λ n b e. subst (λ count. IsSound plan count n b) (sym (length-set banks m new)) (elim (set_from banks m n new b e) [
           inl h ↦ subst (λ i. IsSound plan (length banks) i b) (sym h.0) (subst (IsSound plan (length banks) m) h.1 sound_new)
         | inr h ↦ sound.each n b h.1
         ]);
     }
 
     grows_at : (f : Fact) (n : ℕ) (b : Bank) → slice_get banks n ≡ Some b → Contains b.log f → IsRecorded (slice_set banks m new) f
-    grows_at f n b e h = elim (same_or_not n m) [
+    grows_at f n b e h = elim (cases_eq n m) [
         inl w ↦
           let same : b ≡ bank = cc (e, ap (slice_get banks) w, there) in
           recorded_by (slice_set banks m new) m new f (set_there banks m bank new there) (grown f (subst (λ (c : Bank). Contains c.log f) same h))
