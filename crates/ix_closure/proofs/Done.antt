@@ -25,14 +25,15 @@ use Rattle.ix_closure.specs.Follows.{fact_of, Follows}
 use Rattle.ix_closure.specs.Quantity.{same_step, times, givers, gives}
 use Rattle.ix_closure.specs.Seen.{State}
 use Rattle.ix_closure.specs.Tidy.{IsTidy, IsOwedOnce}
-use Rattle.ix_closure.proofs.Counting.{count-set, count-after}
 use Rattle.ix_closure.proofs.DueCauses.{arrival_not_first}
+use Rattle.ix_closure.proofs.ListCounts.{count_remove}
+use Rattle.ix_closure.proofs.LogCounts.{count_set, count_after}
 use Rattle.ix_closure.proofs.Logs.{IsBeside, log_from}
 use Rattle.ix_closure.proofs.Members.{nth_has, left_was}
 use Rattle.ix_closure.proofs.Recording.{Moves}
 use Rattle.ix_closure.proofs.Stepping.{step_due, step_closed, event_moves}
 use Rattle.ix_closure.proofs.Tidied.{HasCause, IsSingle, IsKnown, tidy_by, tidy_caused, tidy_once, cause_grows}
-use Rattle.ix_closure.proofs.Times.{count-remove, times-some, times-none, times-append, times-taken, times-left, fact_of-same}
+use Rattle.ix_closure.proofs.Times.{times-some, times-none, times-append, times-taken, times-left, fact_of-same}
 
 -- the n-th owed step was done on the bank with the log, and brought more
 pub record IsDone (plan : Parts) (old new : State) (n : ℕ) (log : List Fact) (step : Owed) (more : List Owed) : Type 0 where
@@ -57,7 +58,7 @@ event_done plan planned old new n balanced event = record {
   once = (balanced.sound.each (home_for plan (length old.banks) event.step) event.bank event.there).once;
   counted = λ p.
       ap (λ banks. count_by p (facts_of banks) + count_by p event.bank.log) event.done ∙
-      count-set p old.banks (home_for plan (length old.banks) event.step) event.bank (bank_after plan event.bank event.step) event.there;
+      count_set p old.banks (home_for plan (length old.banks) event.step) event.bank (bank_after plan event.bank event.step) event.there;
 }
 
 module _ (plan : Parts) (planned : IsPlanned plan) (old new : State) (n : ℕ) (log : List Fact) (step : Owed) (more : List Owed) (done : IsDone plan old new n log step more) where
@@ -142,7 +143,7 @@ module _ (plan : Parts) (planned : IsPlanned plan) (old new : State) (n : ℕ) (
     ]
 
     ends_new : (r k e : ℕ) → times new.owed (End r k e) ≤ givers plan (facts_of new.banks) r k e
-    ends_new r k e = omega (arith, times_new (End r k e), count-remove (same_step (End r k e)) old.owed n step done.taken, tidy.owed_ends r k e, ends r k e)
+    ends_new r k e = omega (arith, times_new (End r k e), count_remove (same_step (End r k e)) old.owed n step done.taken, tidy.owed_ends r k e, ends r k e)
 
     caused_new : (f : Fact) → IsRecorded new.banks f → HasCause plan new f
     caused_new f h = elim (caused f h) [ inl o ↦ cause_grows plan old new done.moves.grows f (tidy_caused plan old tidy f o) | inr w ↦ w ]
@@ -152,4 +153,4 @@ module _ (plan : Parts) (planned : IsPlanned plan) (old new : State) (n : ℕ) (
 
   -- where no end is brought, the ends that are owed have those that give them
   pub ends_kept : ((r k e : ℕ) → ¬ (Contains more (End r k e))) → (r k e : ℕ) → times more (End r k e) + givers plan (facts_of old.banks) r k e ≤ givers plan (facts_of new.banks) r k e
-  ends_kept none r k e = omega (arith, times-none more (End r k e) (none r k e), done.counted (gives plan r k e), count-after (gives plan r k e) plan log step)
+  ends_kept none r k e = omega (arith, times-none more (End r k e) (none r k e), done.counted (gives plan r k e), count_after (gives plan r k e) plan log step)

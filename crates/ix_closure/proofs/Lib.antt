@@ -7,7 +7,6 @@ pub mod Claims
 pub mod ClusterLists
 pub mod Clusters
 pub mod CoreSteps
-pub mod Counting
 pub mod Done
 pub mod DueCauses
 pub mod EveryOrder
@@ -18,6 +17,8 @@ pub mod FirstsOnce
 pub mod Following
 pub mod InClosure
 pub mod Known
+pub mod ListCounts
+pub mod LogCounts
 pub mod Logs
 pub mod Members
 pub mod NewCauses

@@ -26,29 +26,10 @@ use Rattle.ix_closure.specs.declared.owed.Owed.TheVariants.{Claim, Edge, End, Ar
 use Rattle.ix_closure.specs.Events.{log_after}
 use Rattle.ix_closure.specs.Follows.{Follows, FollowsClaim, FollowsDesc, passes, stops, inserts, calls, ends, arrival, claims_at, opened, met_ends, met_edges, claim_of}
 use Rattle.ix_closure.proofs.FirstsOnce.{firsts_once}
-use Rattle.ix_closure.proofs.Weights.{is_claim, weight, count_put, count_put_new}
+use Rattle.ix_closure.proofs.LogCounts.{count_put, count_put_new, count_call}
+use Rattle.ix_closure.proofs.Weights.{is_claim, weight}
 
 -- ---- a call
-
-module _ (p : Fact → Bool) (plan : Parts) (k : ℕ) where
-  count_first : (log : List Fact) (s : ℕ) → count_by p log ≤ count_by p (after_first plan k log s)
-  count_first log s = by (is_at_end plan s)
-    where
-      by : (b : Bool) → count_by p log ≤ count_by p (cond b (put (put log (fact.Desc s k k)) (fact.Part (empty_sub s k))) (put log (fact.Desc s k k)))
-      by true = omega (arith, count_put p log (fact.Desc s k k), count_put p (put log (fact.Desc s k k)) (fact.Part (empty_sub s k)))
-      by false = count_put p log (fact.Desc s k k)
-
-  count_firsts : (firsts : List ℕ) (log : List Fact) → count_by p log ≤ count_by p (after_firsts plan k firsts log)
-  count_firsts [] log = omega arith
-  count_firsts (s ∷ ss) log = omega (arith, count_first log s, count_firsts ss (after_first plan k log s))
-
-  -- a call forgets nothing that is counted
-  pub count_call : (log : List Fact) (r : ℕ) → count_by p log ≤ count_by p (after_call plan log r k)
-  count_call log r = by (has log (fact.Called r k))
-    where
-      by : (b : Bool) → count_by p log ≤ count_by p (cond b log (after_firsts plan k (firsts_of plan r) (put log (fact.Called r k))))
-      by true = omega arith
-      by false = omega (arith, count_put p log (fact.Called r k), count_firsts (firsts_of plan r) (put log (fact.Called r k)))
 
 module _ (plan : Parts) (k : ℕ) where
   -- the descriptor of another alternative is there as before

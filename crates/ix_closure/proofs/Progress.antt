@@ -25,8 +25,7 @@ use Rattle.ix_closure.specs.declared.owed.Owed.TheVariants.{Claim, Edge, End, Ar
 use Rattle.ix_closure.specs.Events.{Event, log_after, bank_after, home_for}
 use Rattle.ix_closure.specs.Follows.{arrival, claims_at, claim_of, FollowsClaim, Follows}
 use Rattle.ix_closure.specs.Seen.{State}
-use Rattle.ix_closure.proofs.Paid.{count_call}
-use Rattle.ix_closure.proofs.Weights.{count_put, count_put_new}
+use Rattle.ix_closure.proofs.LogCounts.{count_put, count_put_new, count_call}
 
 -- every fact
 each : Fact → Bool

@@ -25,9 +25,10 @@ use Rattle.ix_closure.specs.Tidy.{IsTidy}
 use Rattle.ix_closure.proofs.Done.{IsDone, newly, step_owed, tidy_after}
 use Rattle.ix_closure.proofs.DueCauses.{ArrivesBy, cause_of}
 use Rattle.ix_closure.proofs.Known.{edge_known, arrival_known}
+use Rattle.ix_closure.proofs.ListCounts.{count_append}
 use Rattle.ix_closure.proofs.Logs.{IsBeside, has_not}
 use Rattle.ix_closure.proofs.Tidied.{HasCause, IsSingle, IsKnown}
-use Rattle.ix_closure.proofs.Times.{count-append, times-one, same_step-refl, same_step-true}
+use Rattle.ix_closure.proofs.Times.{times-one, same_step-refl, same_step-true}
 
 module _ (plan : Parts) (planned : IsPlanned plan) (old new : State) (n : ℕ) (log : List Fact) (s l p : ℕ) (more : List Owed)
     (done : IsDone plan old new n log (Claim s l p) more) (tidy : IsTidy plan old) where
@@ -108,7 +109,7 @@ module _ (plan : Parts) (planned : IsPlanned plan) (old new : State) (n : ℕ) (
         given more follows r k e,
         done.counted (gives plan r k e),
         ap (count_by (gives plan r k e)) recorded,
-        count-append (gives plan r k e) log (fact.Claim s l p ∷ []),
+        count_append (gives plan r k e) log (fact.Claim s l p ∷ []),
       )
 
   pub claim_tidy : IsBalanced plan new → IsTidy plan new

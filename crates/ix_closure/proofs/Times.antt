@@ -8,34 +8,8 @@ use Rattle.ix_closure.specs.declared.owed.Owed.{Owed}
 use Rattle.ix_closure.specs.declared.owed.Owed.TheVariants.{Claim, Edge, End, Arrive}
 use Rattle.ix_closure.specs.Follows.{fact_of}
 use Rattle.ix_closure.specs.Quantity.{same_step, times}
+use Rattle.ix_closure.proofs.ListCounts.{count_cons, count_append, count_remove, count_some, count_none}
 use Rattle.ix_closure.proofs.OnceEach.{IsOnceEach}
-
-module _ {X : Type 0} (p : X → Bool) where
-  pub count-cons : (x : X) (xs : List X) → count_by p (x ∷ xs) ≡ cond (p x) 1 0 + count_by p xs
-  count-cons x xs = sum_by-cons (λ y. cond (p y) 1 0) x xs
-
-  pub count-append : (xs ys : List X) → count_by p (xs ++ ys) ≡ count_by p xs + count_by p ys
-  count-append xs ys = sum_by-append (λ y. cond (p y) 1 0) xs ys
-
-  -- an element that is taken out is counted no more
-  pub count-remove : (xs : List X) (n : ℕ) (x : X) → slice_get xs n ≡ Some x → count_by p (remove xs n) + cond (p x) 1 0 ≡ count_by p xs
-  count-remove [] n x e = absurd (cc)
-  count-remove (y ∷ ys) zero x e = let same : y ≡ x = cc in omega (arith, count-cons y ys, ap {B = ℕ} (λ z. cond (p z) 1 0) same)
-  count-remove (y ∷ ys) (suc n) x e = omega (arith, count-cons y ys, count-cons y (remove ys n), count-remove ys n x e)
-
-  -- what passes is counted
-  pub count-some : (xs : List X) (x : X) → p x ≡ true → Contains xs x → 1 ≤ count_by p xs
-  count-some [] x e c = absurd (none_has x c)
-  count-some (y ∷ ys) x e c = elim (either_has y ys x c) [
-    | inl w ↦ omega (arith, count-cons y ys, ap {B = ℕ} (λ z. cond (p z) 1 0) w, ap {B = ℕ} (λ b. cond b 1 0) e)
-    | inr r ↦ omega (arith, count-cons y ys, count-some ys x e r)
-  ]
-
-  -- where none passes none is counted
-  pub count-none : (xs : List X) → ((x : X) → Contains xs x → p x ≡ false) → count_by p xs ≡ 0
-  count-none [] h = refl
-  count-none (y ∷ ys) h =
-      omega (arith, count-cons y ys, ap {B = ℕ} (λ b. cond b 1 0) (h y (first_has y ys)), count-none ys (λ x c. h x (rest_has y ys x c)))
 
 -- ---- steps
 
@@ -64,20 +38,20 @@ same_step-false a b apart = by (either (same_step a b))
 
 -- a step that is owed is owed at least once, and one that is not is owed no times
 pub times-some : (xs : List Owed) (x : Owed) → Contains xs x → 1 ≤ times xs x
-times-some xs x c = count-some (same_step x) xs x (same_step-refl x) c
+times-some xs x c = count_some (same_step x) xs x (same_step-refl x) c
 
 pub times-none : (xs : List Owed) (x : Owed) → (Contains xs x → ⊥) → times xs x ≡ 0
-times-none xs x none = count-none (same_step x) xs (λ y c. same_step-false x y (λ e. none (subst (Contains xs) (sym e) c)))
+times-none xs x none = count_none (same_step x) xs (λ y c. same_step-false x y (λ e. none (subst (Contains xs) (sym e) c)))
 
 pub times-append : (xs ys : List Owed) (x : Owed) → times (xs ++ ys) x ≡ times xs x + times ys x
-times-append xs ys x = count-append (same_step x) xs ys
+times-append xs ys x = count_append (same_step x) xs ys
 
 -- a step that is taken out is owed once less, and each other as often as before
 pub times-taken : (xs : List Owed) (n : ℕ) (x : Owed) → slice_get xs n ≡ Some x → times (remove xs n) x + 1 ≡ times xs x
-times-taken xs n x e = omega (arith, count-remove (same_step x) xs n x e, ap {B = ℕ} (λ b. cond b 1 0) (same_step-refl x))
+times-taken xs n x e = omega (arith, count_remove (same_step x) xs n x e, ap {B = ℕ} (λ b. cond b 1 0) (same_step-refl x))
 
 pub times-left : (xs : List Owed) (n : ℕ) (y x : Owed) → slice_get xs n ≡ Some y → (x ≡ y → ⊥) → times (remove xs n) x ≡ times xs x
-times-left xs n y x e apart = omega (arith, count-remove (same_step x) xs n y e, ap {B = ℕ} (λ b. cond b 1 0) (same_step-false x y apart))
+times-left xs n y x e apart = omega (arith, count_remove (same_step x) xs n y e, ap {B = ℕ} (λ b. cond b 1 0) (same_step-false x y apart))
 
 -- a step that is owed alone is owed once
 pub times-one : (y x : Owed) → Contains (y ∷ []) x → times (y ∷ []) x ≡ 1
@@ -90,8 +64,8 @@ times-once [] x h c = absurd (none_has x c)
 times-once (y ∷ ys) x h c = elim (either_has y ys x c) [
   | inl e ↦
       let none = times-none ys x (λ r. h.0 (subst (Contains ys) (sym e) r)) in
-      omega (arith, count-cons (same_step x) y ys, none, ap {B = ℕ} (λ z. cond (same_step x z) 1 0) e, ap {B = ℕ} (λ b. cond b 1 0) (same_step-refl x))
+      omega (arith, count_cons (same_step x) y ys, none, ap {B = ℕ} (λ z. cond (same_step x z) 1 0) e, ap {B = ℕ} (λ b. cond b 1 0) (same_step-refl x))
   | inr r ↦
       let other = same_step-false x y (λ e. h.0 (subst (Contains ys) e r)) in
-      omega (arith, count-cons (same_step x) y ys, times-once ys x h.1 r, ap {B = ℕ} (λ b. cond b 1 0) other)
+      omega (arith, count_cons (same_step x) y ys, times-once ys x h.1 r, ap {B = ℕ} (λ b. cond b 1 0) other)
 ]

@@ -8,7 +8,7 @@ use Rattle.ix_cluster.specs.Facts.{has, put}
 use Rattle.ix_cluster.specs.Handed.{meets, pair_count}
 use Rattle.ix_cluster.specs.Room.{tally}
 use Rattle.ix_cluster.specs.Seen.{Bank}
-use Rattle.ix_cluster.proofs.Counts.{put-new}
+use Rattle.ix_closure.proofs.ListCounts.{count_append}
 
 -- whether the fact is a claim
 abbrev pub is_claim : Fact → Bool
@@ -18,26 +18,6 @@ is_claim _ = false
 -- the descriptors, the claims, and the pairs of an edge and an end: each can have made one step owed
 abbrev pub weight : List Fact → ℕ
 weight facts = count_by is_descriptor facts + count_by is_claim facts + pair_count facts
-
-module _ (p : Fact → Bool) where
-  -- one more that passes is counted
-  pub count_push : (xs : List Fact) (f : Fact) → count_by p (xs ++ f ∷ []) ≡ count_by p xs + cond (p f) 1 0
-  count_push xs f = sum_by_push (λ x. cond (p x) 1 0) xs f
-
-  pub count_append : (xs ys : List Fact) → count_by p (xs ++ ys) ≡ count_by p xs + count_by p ys
-  count_append xs ys = sum_by-append (λ x. cond (p x) 1 0) xs ys
-
-  -- a log that a fact is put into counts no fewer
-  pub count_put : (log : List Fact) (f : Fact) → count_by p log ≤ count_by p (put log f)
-  count_put log f = by (has log f)
-    where
-      by : (b : Bool) → count_by p log ≤ count_by p (cond b log (log ++ f ∷ []))
-      by true = omega arith
-      by false = omega (arith, count_push log f)
-
-  -- and one more where the fact is new and passes
-  pub count_put_new : (log : List Fact) (f : Fact) → has log f ≡ false → p f ≡ true → count_by p log + 1 ≤ count_by p (put log f)
-  count_put_new log f none passes = rw (put-new log f none) (omega (arith, count_push log f, ap {B = ℕ} (λ b. cond b 1 0) passes))
 
 tally_append : (p : Fact → Bool) (xs ys : List Fact) → tally p (xs ++ ys) ≡ tally p xs + tally p ys
 tally_append p [] ys = omega arith
