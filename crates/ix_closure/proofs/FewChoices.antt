@@ -30,13 +30,7 @@ use Rattle.ix_closure.proofs.FirstsOnce.{rule_with_alternatives, firsts_once}
 use Rattle.ix_closure.proofs.InClosure.{weight_sound}
 use Rattle.ix_closure.proofs.Paid.{IsFresh, descriptor_call, step_paid}
 use Rattle.ix_closure.proofs.Recording.{recorded_by, recorded_home}
-use Rattle.ix_closure.proofs.Weights.{weight, weight_in}
-
--- one bank changes the weight of all as its own
-weight_set : (banks : List Bank) (m : ℕ) (bank new : Bank) → slice_get banks m ≡ Some bank → weight_in (slice_set banks m new) + weight bank.log ≡ weight_in banks + weight new.log
-weight_set [] m bank new e = absurd (cc e)
-weight_set (b ∷ banks) zero bank new e = let same : b ≡ bank = cc e in omega (arith, ap (λ (x : Bank). weight x.log) same)
-weight_set (b ∷ banks) (suc m) bank new e = omega (arith, weight_set banks m bank new e)
+use Rattle.ix_closure.proofs.Weights.{weight_in, weight_set}
 
 module _ (plan : Parts) (planned : IsPlanned plan) where
   -- what is among the first slots of a rule is one of its alternatives'

@@ -14,8 +14,9 @@ use Rattle.ix_cluster.specs.declared.fact.Fact.TheVariants.{Desc}
 use Rattle.ix_cluster.specs.Banks.{is_descriptor}
 use Rattle.ix_cluster.specs.ClosedFacts.{IsInClosed}
 use Rattle.ix_cluster.specs.Facts.{same_fact}
+use Rattle.ix_closure.proofs.LogCounts.{tallied}
 use Rattle.ix_closure.proofs.Members.{map_has, flat_has}
-use Rattle.ix_closure.proofs.Sublists.{tallied, fewer}
+use Rattle.ix_closure.proofs.Sublists.{fewer}
 
 -- each number below n
 range_has : (n k : ℕ) → k < n → Contains (range_with_len 0 n) k

@@ -11,9 +11,10 @@ use Rattle.ix_cluster.specs.Seen.{Bank}
 use Rattle.ix_cluster.specs.Sound.{AreSound}
 use Rattle.ix_closure.specs.Closure.{IsClosure}
 use Rattle.ix_closure.specs.Quantity.{step_bound}
+use Rattle.ix_closure.proofs.LogCounts.{tallied}
 use Rattle.ix_closure.proofs.Once.{facts_once}
 use Rattle.ix_closure.proofs.Recording.{recorded_closed}
-use Rattle.ix_closure.proofs.Sublists.{tallied, fewer, fewer_by, fewer_pairs}
+use Rattle.ix_closure.proofs.Sublists.{fewer, fewer_by, fewer_pairs}
 use Rattle.ix_closure.proofs.Weights.{is_claim, weight, weight_in, weight_of_facts}
 
 -- the descriptor that a claim is of

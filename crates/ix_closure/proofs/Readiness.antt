@@ -1,7 +1,5 @@
 -- The numbers of a step that is owed are in range.
 use Rattle.std.proofs.Common.{◌≡◌, ℕ, ◌+◌, ◌<◌, ◌≤◌, Bool, true, false, cond, List, [], Contains, length, Option, Some, None, IsSome, is_none, get_or, refl, sym, ap, ◌∙◌, subst}
-use Rattle.std.specs.List.{All}
-use Rattle.std.proofs.lemmas.List.Elements.{All-from_get_or, Contains-get_or}
 use Rattle.ix_model.specs.declared.rules.Sym.{Sym}
 use Rattle.ix_model.specs.declared.rules.Sym.TheVariants as sy
 use Rattle.ix_model.specs.Parts.{Parts}
@@ -28,10 +26,8 @@ use Rattle.ix_closure.specs.Ready.{HasFurther, HasSlot, IsReady}
 use Rattle.ix_closure.specs.Seen.{State}
 use Rattle.ix_closure.proofs.Causes.{due_closed}
 use Rattle.ix_closure.proofs.Clusters.{edge_from}
+use Rattle.ix_closure.proofs.Members.{all_have}
 use Rattle.ix_closure.proofs.Recording.{recorded_closed, recorded_by}
-
-all_have : {X : Type 0} (P : X → Type 0) (d : X) (xs : List X) → ((x : X) → Contains xs x → P x) → All P xs
-all_have P d xs f = All-from_get_or P xs d (λ i h. f (get_or xs i d) (Contains-get_or xs i d h))
 
 is_some : (o : Option Sym) (x : Sym) → o ≡ Some x → IsSome o
 is_some (Some y) x e = refl
@@ -57,7 +53,7 @@ module _ (plan : Parts) (planned : IsPlanned plan) where
   step_ready log true_fact (Edge r k s l) h =
       let next = (links.edge_from plan r k s l h).1 in
       ((edge_further r k s l h).0, (edge_within plan planned r k s l h).0, (next.1, (next_reads plan planned s next.0 (sy.Rule r next.1) next.2).1))
-  step_ready log true_fact (End r k e) h = all_have (λ (edge : Arc). HasFurther plan edge.slot) (record { slot = 0; left = 0 }) (end_answer log r k e) (by (has log (fact.End r k e)))
+  step_ready log true_fact (End r k e) h = all_have (λ (edge : Arc). HasFurther plan edge.slot) (end_answer log r k e) (by (has log (fact.End r k e)))
     where
       by : (b : Bool) (a : Arc) → Contains (cond b [] (edges_in log (cluster r k))) a → HasFurther plan a.slot
       by true a w = absurd (none_has a w)

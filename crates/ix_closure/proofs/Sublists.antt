@@ -3,7 +3,6 @@ use Rattle.std.proofs.Common.{◌≡◌, ℕ, ◌+◌, ◌≤◌, Bool, true, fa
 use Rattle.std.specs.List.{IsDistinct}
 use Rattle.std.proofs.lemmas.Bool.Decides.{nat_tests}
 use Rattle.std.proofs.lemmas.List.Elements.{All-from_recursion, All-contains}
-use Rattle.std.proofs.lemmas.List.Recursion.{is_count_by}
 use Rattle.std.proofs.lemmas.Map.Keys.{IsDistinct-head, IsDistinct-tail}
 use Rattle.ix_cluster.specs.declared.cluster.Cluster.{Cluster}
 use Rattle.ix_cluster.specs.declared.fact.Fact.{Fact}
@@ -15,17 +14,6 @@ use Rattle.ix_cluster.specs.Room.{tally}
 use Rattle.ix_cluster.proofs.FactLemmas.{same_fact-true, same_fact-refl}
 use Rattle.ix_cluster.proofs.Handing.{called-none, desc-none, part-none, claim-none}
 use Rattle.ix_cluster.proofs.Members.{first_has, rest_has, either_has, none_has}
-
--- the two counts of what passes a test are one
-pub tallied : (p : Fact → Bool) (xs : List Fact) → tally p xs ≡ count_by p xs
-tallied p xs = is_count_by (tally p) p refl one xs
-  where
-    one : (x : Fact) (ys : List Fact) → tally p (x ∷ ys) ≡ cond (p x) (1 + tally p ys) (tally p ys)
-    one x ys = by (p x)
-      where
-        by : (b : Bool) → cond b 1 0 + tally p ys ≡ cond b (1 + tally p ys) (tally p ys)
-        by true = refl
-        by false = omega arith
 
 -- a fact that is once in front is not behind
 pub apart_from : (x : Fact) (xs : List Fact) (f : Fact) → IsDistinct same_fact (x ∷ xs) → Contains xs f → same_fact x f ≡ false
