@@ -29,7 +29,7 @@ use Rattle.ix_closure.specs.Due.{IsDue, claim, passed, inserted, waits, ends, me
 use Rattle.ix_closure.specs.Events.{log_after}
 use Rattle.ix_closure.specs.Follows.{fact_of, sub_of, arrival, claims_at, claim_of, FollowsDesc, FollowsClaim, Follows}
 use Rattle.ix_closure.proofs.Causes.{due_desc}
-use Rattle.ix_closure.proofs.Clusters.{edge_in, end_in, edge_from, end_from}
+use Rattle.ix_closure.proofs.ClusterLists.{edges_have, ends_have, edges_from, ends_from}
 use Rattle.ix_closure.proofs.Following.{one_follows}
 use Rattle.ix_closure.proofs.Members.{map_has, map_from}
 use Rattle.ix_closure.proofs.NewCauses.{IsNewlyDue, by_desc, by_claim, by_edge, by_end, due_grown, due_split, desc_due, desc_brings}
@@ -148,7 +148,7 @@ module _ (plan : Parts) (planned : IsPlanned plan) (Mine Before After : Fact →
         met : (r' k' s l e' after : ℕ) (mark : Option Mark) → Before (fact.Edge r' k' s l) → fact.End r k e ≡ fact.End r' k' e' → HasNext plan s after (sy.Rule r' mark) → Contains (map (arrival k e) (edges_in log (cluster r k))) (Arrive (sub_of after l k' e'))
         met r' k' s l e' after mark edge w next =
             let here = m.here (fact.Edge r' k' s l) (subst (λ f. Mine (edge_at f s l)) w (mine s l)) edge in
-            let in_list = map_has (arrival k' e') (edges_in log (cluster r' k')) (record { slot = s; left = l }) (edge_in r' k' log s l here) in
+            let in_list = map_has (arrival k' e') (edges_in log (cluster r' k')) (record { slot = s; left = l }) (edges_have (cluster r' k') log (record { slot = s; left = l }) here) in
             let number : s + 1 ≡ after = sym (next_reads plan planned s after (sy.Rule r' mark) next).2 in
             subst (λ n. Contains (map (arrival k e) (edges_in log (cluster r k))) (Arrive (sub_of n l k' e'))) number
             (subst (λ f. Contains (joins_of log f) (Arrive (sub_of (s + 1) l k' e'))) (sym w) in_list)
@@ -162,7 +162,7 @@ module _ (plan : Parts) (planned : IsPlanned plan) (Mine Before After : Fact →
         causes : (x : Owed) → Contains (map (arrival k e) (edges_in log (cluster r k))) x → IsDue plan After x
         causes x h =
             let a = map_from (arrival k e) (edges_in log (cluster r k)) x h in
-            let there = m.back (fact.Edge r k a.0.slot a.0.left) (edge_from r k log a.0 a.1) in
+            let there = m.back (fact.Edge r k a.0.slot a.0.left) (edges_from (cluster r k) log a.0 a.1) in
             let next = (links.edge_from plan r k a.0.slot a.0.left (true_fact (fact.Edge r k a.0.slot a.0.left) there)).1 in
             let number : next.0 ≡ a.0.slot + 1 = (next_reads plan planned a.0.slot next.0 (sy.Rule r next.1) next.2).2 in
             let due = meets r k a.0.slot a.0.left e next.0 next.1 (m.grows (fact.Edge r k a.0.slot a.0.left) there) made next.2 in
@@ -278,7 +278,7 @@ module _ (plan : Parts) (planned : IsPlanned plan) (Mine Before After : Fact →
         met : (r' k' s' l' e after : ℕ) (mark : Option Mark) → fact.Edge r k s l ≡ fact.Edge r' k' s' l' → Before (fact.End r' k' e) → HasNext plan s' after (sy.Rule r' mark) → Contains (map (λ e. arrival k e (record { slot = s; left = l })) (ends_in log (cluster r k))) (Arrive (sub_of after l' k' e))
         met r' k' s' l' e after mark w end next =
             let here = m.here (fact.End r' k' e) (subst (λ f. Mine (end_at f e)) w (mine e)) end in
-            let in_list = map_has (λ e. arrival k' e (record { slot = s'; left = l' })) (ends_in log (cluster r' k')) e (end_in r' k' log e here) in
+            let in_list = map_has (λ e. arrival k' e (record { slot = s'; left = l' })) (ends_in log (cluster r' k')) e (ends_have (cluster r' k') log e here) in
             let number : s' + 1 ≡ after = sym (next_reads plan planned s' after (sy.Rule r' mark) next).2 in
             subst (λ n. Contains (map (λ e. arrival k e (record { slot = s; left = l })) (ends_in log (cluster r k))) (Arrive (sub_of n l' k' e))) number
             (subst (λ f. Contains (joins_of log f) (Arrive (sub_of (s' + 1) l' k' e))) (sym w) in_list)
@@ -309,7 +309,7 @@ module _ (plan : Parts) (planned : IsPlanned plan) (Mine Before After : Fact →
         arrivals_due : (x : Owed) → Contains (map (λ e. arrival k e (record { slot = s; left = l })) (ends_in log (cluster r k))) x → IsDue plan After x
         arrivals_due x h =
             let e = map_from (λ e. arrival k e (record { slot = s; left = l })) (ends_in log (cluster r k)) x h in
-            let end = m.grows (fact.End r k e.0) (m.back (fact.End r k e.0) (end_from r k log e.0 e.1)) in
+            let end = m.grows (fact.End r k e.0) (m.back (fact.End r k e.0) (ends_from (cluster r k) log e.0 e.1)) in
             let next = (links.edge_from plan r k s l closed).1 in
             let number : next.0 ≡ s + 1 = (next_reads plan planned s next.0 (sy.Rule r next.1) next.2).2 in
             let due = meets r k s l e.0 next.0 next.1 made end next.2 in

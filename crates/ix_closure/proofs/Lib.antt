@@ -5,7 +5,6 @@ pub mod Bringing
 pub mod Causes
 pub mod Claims
 pub mod ClusterLists
-pub mod Clusters
 pub mod CoreSteps
 pub mod Done
 pub mod DueCauses

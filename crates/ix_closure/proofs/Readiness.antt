@@ -25,7 +25,7 @@ use Rattle.ix_closure.specs.Follows.{fact_of}
 use Rattle.ix_closure.specs.Ready.{HasFurther, HasSlot, IsReady}
 use Rattle.ix_closure.specs.Seen.{State}
 use Rattle.ix_closure.proofs.Causes.{due_closed}
-use Rattle.ix_closure.proofs.Clusters.{edge_from}
+use Rattle.ix_closure.proofs.ClusterLists.{edges_from}
 use Rattle.ix_closure.proofs.Members.{all_have}
 use Rattle.ix_closure.proofs.Recording.{recorded_closed, recorded_by}
 
@@ -57,5 +57,5 @@ module _ (plan : Parts) (planned : IsPlanned plan) where
     where
       by : (b : Bool) (a : Arc) → Contains (cond b [] (edges_in log (cluster r k))) a → HasFurther plan a.slot
       by true a w = absurd (none_has a w)
-      by false a w = edge_further r k a.slot a.left (true_fact (fact.Edge r k a.slot a.left) (edge_from r k log a w))
+      by false a w = edge_further r k a.slot a.left (true_fact (fact.Edge r k a.slot a.left) (edges_from (cluster r k) log a w))
   step_ready log true_fact (Arrive sub) h = (part_within plan planned sub.slot sub.left sub.pivot sub.right h).0

@@ -19,7 +19,7 @@ use Rattle.ix_closure.specs.Follows.{sub_of, arrival}
 use Rattle.ix_closure.specs.Quantity.{times}
 use Rattle.ix_closure.specs.Seen.{State}
 use Rattle.ix_closure.specs.Tidy.{IsTidy}
-use Rattle.ix_closure.proofs.ClusterLists.{edge_listed, edges_once}
+use Rattle.ix_closure.proofs.ClusterLists.{edges_from, edges_once}
 use Rattle.ix_closure.proofs.Done.{IsDone, newly, tidy_after, ends_kept}
 use Rattle.ix_closure.proofs.DueCauses.{edge_next}
 use Rattle.ix_closure.proofs.Known.{arrival_known}
@@ -51,7 +51,7 @@ module _ (plan : Parts) (planned : IsPlanned plan) (old new : State) (n : ℕ) (
   -- what a new end meets did not arrive before
   arrival_new : has log (fact.End r k e) ≡ false → (a : Arc) → Contains (edges_in log (cluster r k)) a → ¬ (IsKnown old (arrival k e a))
   arrival_new fresh a c known =
-      let next = edge_next plan planned r k a.slot a.left (recorded_closed plan old.banks tidy.balanced.sound (fact.Edge r k a.slot a.left) (done.moves.back (fact.Edge r k a.slot a.left) (edge_listed (cluster r k) log a c))) in
+      let next = edge_next plan planned r k a.slot a.left (recorded_closed plan old.banks tidy.balanced.sound (fact.Edge r k a.slot a.left) (done.moves.back (fact.Edge r k a.slot a.left) (edges_from (cluster r k) log a c))) in
       has_none log (fact.End r k e) fresh
       (done.moves.here (fact.End r k e) refl (arrival_known plan planned old tidy (sub_of (a.slot + 1) a.left k e) known a.slot (sy.Rule r next.0) next.1).1)
 
