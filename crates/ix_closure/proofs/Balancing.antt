@@ -15,7 +15,7 @@ use Rattle.ix_closure.specs.Follows.{fact_of, Follows}
 use Rattle.ix_closure.specs.Seen.{State}
 use Rattle.ix_closure.proofs.Bringing.{Brings, claim_brings, end_brings, arrival_brings, edge_brings}
 use Rattle.ix_closure.proofs.Members.{left_was, taken_or_left}
-use Rattle.ix_closure.proofs.NewCauses.{due_grown}
+use Rattle.ix_closure.proofs.NewCauses.{due_grows}
 use Rattle.ix_closure.proofs.Recording.{Moves, recorded_closed}
 use Rattle.ix_closure.proofs.Stepping.{step_due, step_closed, event_sound, event_moves}
 
@@ -47,7 +47,7 @@ module _ (plan : Parts) (planned : IsPlanned plan) (old new : State) (n : ℕ) (
 
   owed_due : (o : Owed) → Contains (remove old.owed n ++ event.more) o → FollowsIn plan new.banks o
   owed_due o h = elim (Contains-append_cases (remove old.owed n) event.more o h) [
-      inl l ↦ due_grown plan (IsRecorded old.banks) (IsRecorded new.banks) m.grows o (balanced.caused o (left_was old.owed n o l))
+      inl l ↦ due_grows plan (IsRecorded old.banks) (IsRecorded new.banks) m.grows o (balanced.caused o (left_was old.owed n o l))
     | inr l ↦ event_brings.causes o l
     ]
 

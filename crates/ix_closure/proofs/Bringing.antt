@@ -28,11 +28,11 @@ use Rattle.ix_closure.specs.declared.owed.Owed.TheVariants.{Claim, Edge, End, Ar
 use Rattle.ix_closure.specs.Due.{IsDue, claim, passed, inserted, waits, ends, meets}
 use Rattle.ix_closure.specs.Events.{log_after}
 use Rattle.ix_closure.specs.Follows.{fact_of, sub_of, arrival, claims_at, claim_of, FollowsDesc, FollowsClaim, Follows}
-use Rattle.ix_closure.proofs.Causes.{due_desc}
 use Rattle.ix_closure.proofs.ClusterLists.{edges_have, ends_have, edges_from, ends_from}
-use Rattle.ix_closure.proofs.Following.{one_follows}
+use Rattle.ix_closure.proofs.DueCauses.{cause_of}
+use Rattle.ix_closure.proofs.Following.{follows_same, follows_due}
 use Rattle.ix_closure.proofs.Members.{map_has, map_from}
-use Rattle.ix_closure.proofs.NewCauses.{IsNewlyDue, by_desc, by_claim, by_edge, by_end, due_grown, due_split, desc_due, desc_brings}
+use Rattle.ix_closure.proofs.NewCauses.{IsNewlyDue, by_desc, by_claim, by_edge, by_end, due_grows, due_split}
 use Rattle.ix_closure.proofs.Recording.{Moves}
 
 -- the step has recorded its fact, and what is due behind it was due before or is among the further steps
@@ -90,7 +90,7 @@ module _ (plan : Parts) (planned : IsPlanned plan) (Mine Before After : Fact →
   idle : (o : Owed) → Moves Mine Before After log log → Before (fact_of o) → Brings plan Before After o []
   idle o m there = record {
     done = m.grows (fact_of o) there;
-    newly = λ x d. inl (due_grown plan After Before (λ f h. elim (m.from f h) [ inl b ↦ b | inr w ↦ m.back f w ]) x d);
+    newly = λ x d. inl (due_grows plan After Before (λ f h. elim (m.from f h) [ inl b ↦ b | inr w ↦ m.back f w ]) x d);
     causes = λ x h. absurd (none_has x h);
   }
 
@@ -101,7 +101,7 @@ module _ (plan : Parts) (planned : IsPlanned plan) (Mine Before After : Fact →
     claim_mine more m follows = record {
       done = made;
       newly = λ x d. elim (due_split plan Before After (λ f. fact.Claim s l p ≡ f) from x d) [ inl b ↦ inl b | inr n ↦ inr (newly x n) ];
-      causes = λ x h. desc_due plan Before After s l p more x made follows (desc_brings plan Before After s l p more x follows h);
+      causes = λ x h. follows_due plan After s l p more x made follows h;
     }
       where
         made : After (fact.Claim s l p)
@@ -114,7 +114,7 @@ module _ (plan : Parts) (planned : IsPlanned plan) (Mine Before After : Fact →
         newly x (by_desc a b c e) = absurd (cc)
         newly x (by_claim a b c o e w) =
             let here : FollowsDesc plan s l p (o ∷ []) = subst (λ f. FollowsOf plan f (o ∷ [])) (sym e) w in
-            subst (λ (z : List Owed). Contains z o) (one_follows plan planned s l p (o ∷ []) more here follows) (first_has o [])
+            subst (λ (z : List Owed). Contains z o) (follows_same plan planned s l p (o ∷ []) more here follows) (first_has o [])
         newly x (by_edge a b c d e after mark w end next) = absurd (cc)
         newly x (by_end a b c d e after mark edge w next) = absurd (cc)
 
@@ -122,7 +122,7 @@ module _ (plan : Parts) (planned : IsPlanned plan) (Mine Before After : Fact →
     claim_brings more due mine m follows = by (has log (fact.Desc s l p)) (has log (fact.Claim s l p)) refl refl m follows
       where
         there : has log (fact.Desc s l p) ≡ true
-        there = has-Contains log (fact.Desc s l p) (m.here (fact.Desc s l p) mine (due_desc plan Before true_fact (Claim s l p) due))
+        there = has-Contains log (fact.Desc s l p) (m.here (fact.Desc s l p) mine (cause_of plan planned Before (Claim s l p) due))
 
         by : (d c : Bool) → has log (fact.Desc s l p) ≡ d → has log (fact.Claim s l p) ≡ c → Moves Mine Before After log (cond d (cond c log (log ++ fact.Claim s l p ∷ [])) log) → FollowsClaim plan (cond d (cond c whose.Taken whose.Mine) whose.Unknown) s l p more → Brings plan Before After (Claim s l p) more
         by false c v w n f = absurd (cc (there, v))

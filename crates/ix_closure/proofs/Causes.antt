@@ -20,19 +20,3 @@ module _ (plan : Parts) (Holds : Fact → Type 0) (true_fact : (f : Fact) → Ho
   due_closed o (waits s l p after r mark h next) = closed.waiting s l p after r mark (true_fact (fact.Claim s l p) h) next
   due_closed o (ends s l p r h last) = closed.ended s l p r (true_fact (fact.Claim s l p) h) last
   due_closed o (meets r k s l e after mark edge end next) = closed.joined r k s l e after mark (true_fact (fact.Edge r k s l) edge) (true_fact (fact.End r k e) end) next
-
-  -- the descriptor that a claim is of
-  abbrev pub DescOf : Owed → Type 0
-  DescOf (step.Claim s l p) = Holds (fact.Desc s l p)
-  DescOf (step.Edge r k s l) = Unit {0}
-  DescOf (step.End r k e) = Unit {0}
-  DescOf (step.Arrive sub) = Unit {0}
-
-  -- a due claim is of a descriptor that holds
-  pub due_desc : (o : Owed) → IsDue plan Holds o → DescOf o
-  due_desc o (claim s l p h) = h
-  due_desc o (passed s l p after e x h n t) = tt
-  due_desc o (inserted s l p after n h next) = tt
-  due_desc o (waits s l p after r mark h next) = tt
-  due_desc o (ends s l p r h last) = tt
-  due_desc o (meets r k s l e after mark edge end next) = tt

@@ -24,8 +24,9 @@ use Rattle.ix_cluster.proofs.Members.{first_has, rest_has}
 use Rattle.ix_closure.specs.declared.owed.Owed.{Owed}
 use Rattle.ix_closure.specs.declared.owed.Owed.TheVariants.{Claim, Edge, End, Arrive}
 use Rattle.ix_closure.specs.Events.{log_after}
-use Rattle.ix_closure.specs.Follows.{Follows, FollowsClaim, FollowsDesc, passes, stops, inserts, calls, ends, arrival, claims_at, opened, met_ends, met_edges, claim_of}
+use Rattle.ix_closure.specs.Follows.{Follows, FollowsClaim, arrival, claims_at, opened, met_ends, met_edges, claim_of}
 use Rattle.ix_closure.proofs.FirstsOnce.{firsts_once}
+use Rattle.ix_closure.proofs.Following.{follows_few}
 use Rattle.ix_closure.proofs.LogCounts.{count_put, count_put_new, count_call}
 use Rattle.ix_closure.proofs.Weights.{is_claim, weight}
 
@@ -71,14 +72,6 @@ module _ (plan : Parts) (k : ℕ) where
 
 -- ---- the steps
 
--- a descriptor brings one step at most
-one_follows : (plan : Parts) (s l p : ℕ) (more : List Owed) → FollowsDesc plan s l p more → length more ≤ 1
-one_follows plan s l p more (passes x after e next t) = omega arith
-one_follows plan s l p more (stops t shown after next none) = omega arith
-one_follows plan s l p more (inserts n after next) = omega arith
-one_follows plan s l p more (calls r after mark next) = omega arith
-one_follows plan s l p more (ends r last) = omega arith
-
 -- a rule is called before any of its alternatives is begun
 abbrev pub IsFresh : Parts → List Fact → Type 0
 IsFresh plan log = (r k : ℕ) → has log (fact.Called r k) ≡ false → (s : ℕ) → Contains (firsts_of plan r) s → has log (fact.Desc s k k) ≡ false
@@ -93,7 +86,7 @@ module _ (plan : Parts) (planned : IsPlanned plan) (log : List Fact) (fresh : Is
       by true false e one =
           omega (
             arith,
-            one_follows plan s l p more one,
+            follows_few plan s l p more one,
             count_put is_descriptor log (fact.Claim s l p),
             count_put_new is_claim log (fact.Claim s l p) e refl,
             handed-put_other log (fact.Claim s l p) (claim-none s l p),

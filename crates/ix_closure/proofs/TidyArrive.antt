@@ -17,9 +17,10 @@ use Rattle.ix_closure.specs.Quantity.{times}
 use Rattle.ix_closure.specs.Seen.{State}
 use Rattle.ix_closure.specs.Tidy.{IsTidy}
 use Rattle.ix_closure.proofs.Done.{IsDone, newly, tidy_after, ends_kept}
-use Rattle.ix_closure.proofs.DueCauses.{due_grows, arrival_not_first}
+use Rattle.ix_closure.proofs.DueCauses.{arrival_not_first}
 use Rattle.ix_closure.proofs.Known.{claim_known}
 use Rattle.ix_closure.proofs.Logs.{IsBeside, has_none}
+use Rattle.ix_closure.proofs.NewCauses.{due_grows}
 use Rattle.ix_closure.proofs.Tidied.{HasCause, IsSingle, IsKnown}
 use Rattle.ix_closure.proofs.Times.{times-one}
 
