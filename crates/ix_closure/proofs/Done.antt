@@ -28,7 +28,7 @@ use Rattle.ix_closure.specs.Tidy.{IsTidy, IsOwedOnce}
 use Rattle.ix_closure.proofs.DueCauses.{arrival_not_first}
 use Rattle.ix_closure.proofs.ListCounts.{count_remove}
 use Rattle.ix_closure.proofs.LogCounts.{count_set, count_after}
-use Rattle.ix_closure.proofs.Logs.{IsBeside, log_from}
+use Rattle.ix_closure.proofs.Logs.{IsBeside, newly_recorded}
 use Rattle.ix_closure.proofs.Members.{nth_has, left_was}
 use Rattle.ix_closure.proofs.Recording.{Moves}
 use Rattle.ix_closure.proofs.Stepping.{step_due, step_closed, event_moves}
@@ -68,19 +68,16 @@ module _ (plan : Parts) (planned : IsPlanned plan) (old new : State) (n : ℕ) (
 
   -- what is recorded now was recorded before, or it is the step's own fact, or one beside it
   pub newly : (f : Fact) → IsRecorded new.banks f → IsRecorded old.banks f ⊎ ((fact_of step ≡ f) ⊎ IsBeside plan log step f)
-  newly f h = elim (done.moves.from f h) [
-    | inl o ↦ inl o
-    | inr c ↦ elim (log_from plan log step f c) [ inl o ↦ inl (done.moves.back f o) | inr w ↦ inr w ]
-  ]
+  newly f h = newly_recorded plan (λ f. home_of plan (length old.banks) f ≡ home_for plan (length old.banks) step) (IsRecorded old.banks) (IsRecorded new.banks) log step done.moves f h
 
   -- beside its own fact a step records none that a due step other than an end is to record
   beside_none : (o x : Owed) → IsInClosed plan (fact_of o) → IsSingle x → FollowsIn plan new.banks x → IsBeside plan log o (fact_of x) → ⊥
   unfolding IsBeside IsBegun
   beside_none (Claim s l p) x closed single due h = h
   beside_none (End r k e) x closed single due h = h
-  beside_none (Arrive sub) (Claim s l p) closed single due h = cc
-  beside_none (Arrive sub) (Edge r k s l) closed single due h = cc
-  beside_none (Arrive sub) (Arrive sub') closed single due h = cc
+  beside_none (Arrive sub) (Claim s l p) closed single due (n, h) = cc
+  beside_none (Arrive sub) (Edge r k s l) closed single due (n, h) = cc
+  beside_none (Arrive sub) (Arrive sub') closed single due (n, h) = cc
   beside_none (Arrive sub) (End r k e) closed single due h = single
   beside_none (Edge r k s l) (Claim s' l' p') closed single due (e, inl h) = cc
   beside_none (Edge r k s l) (Claim s' l' p') closed single due (e, inr (t, m, inl h)) = cc

@@ -21,23 +21,9 @@ use Rattle.ix_closure.specs.Follows.{fact_of}
 use Rattle.ix_closure.specs.Seen.{State}
 use Rattle.ix_closure.proofs.BankSteps.{bank_sound}
 use Rattle.ix_closure.proofs.Causes.{due_closed}
+use Rattle.ix_closure.proofs.Logs.{log_keeps}
 use Rattle.ix_closure.proofs.Members.{nth_has}
 use Rattle.ix_closure.proofs.Recording.{Moves, recorded_closed, set_sound, moves}
-
--- a step forgets no fact
-pub log_keeps : (plan : Parts) (log : List Fact) (o : Owed) (f : Fact) → Contains log f → Contains (log_after plan log o) f
-log_keeps plan log (Claim s l p) f h = by (has log (fact.Desc s l p))
-  where
-    by : (b : Bool) → Contains (cond b (put log (fact.Claim s l p)) log) f
-    by true = put-keeps log (fact.Claim s l p) f h
-    by false = h
-log_keeps plan log (Edge r k s l) f h = by (has log (fact.Edge r k s l))
-  where
-    by : (b : Bool) → Contains (cond b log (put (after_call plan log r k) (fact.Edge r k s l))) f
-    by true = h
-    by false = put-keeps (after_call plan log r k) (fact.Edge r k s l) f (call-keeps plan log r k f h)
-log_keeps plan log (End r k e) f h = put-keeps log (fact.End r k e) f h
-log_keeps plan log (Arrive sub) f h = put-keeps (put log (fact.Part sub)) (fact.Desc sub.slot sub.left sub.right) f (put-keeps log (fact.Part sub) f h)
 
 module _ (plan : Parts) (planned : IsPlanned plan) (old new : State) (n : ℕ) (balanced : IsBalanced plan old) (event : Event plan old n new) where
   -- the step is due, and what it is to record is in the closure

@@ -37,7 +37,7 @@ module _ (plan : Parts) (planned : IsPlanned plan) (old new : State) (n : ℕ) (
     | inl o ↦ inl o
     | inr w ↦ elim w [
       | inl e ↦ inr (subst (HasCause plan new) e (inr (due_grows plan (IsRecorded old.banks) (IsRecorded new.banks) done.moves.grows (Arrive sub) done.due)))
-      | inr e ↦ inr (subst (HasCause plan new) e (
+      | inr b ↦ inr (subst (HasCause plan new) b.1 (
         (λ r first. absurd (arrival_not_first plan planned (IsRecorded old.banks) sub done.due r first)),
         (λ other. (sub.pivot, recorded)),
       ))
