@@ -24,7 +24,7 @@ pub step_brings : (plan : Parts) → IsPlanned plan → (count : ℕ) (Before Af
     → Moves (λ f. home_of plan count f ≡ home_for plan count o) Before After log (log_after plan log o) → Follows plan log o more → Brings plan Before After o more
 step_brings plan planned count Before After log true_fact (Claim s l p) more due closed m follows = claim_brings plan planned (λ f. home_of plan count f ≡ home_for plan count (Claim s l p)) Before After log true_fact s l p more due refl m follows
 step_brings plan planned count Before After log true_fact (Edge r k s l) more due closed m follows = edge_brings plan planned (λ f. home_of plan count f ≡ home_for plan count (Edge r k s l)) Before After log true_fact r k s l (λ e. refl) more closed m follows
-step_brings plan planned count Before After log true_fact (End r k e) more due closed m follows = end_brings plan planned (λ f. home_of plan count f ≡ home_for plan count (End r k e)) Before After log true_fact r k e (λ s l. refl) more due closed m follows
+step_brings plan planned count Before After log true_fact (End r k e) more due closed m follows = end_brings plan planned (λ f. home_of plan count f ≡ home_for plan count (End r k e)) Before After log true_fact r k e (λ s l. refl) more m follows
 step_brings plan planned count Before After log true_fact (Arrive sub) more due closed m follows = arrival_brings plan planned (λ f. home_of plan count f ≡ home_for plan count (Arrive sub)) Before After log true_fact sub more m follows
 
 module _ (plan : Parts) (planned : IsPlanned plan) (old new : State) (n : ℕ) (balanced : IsBalanced plan old) (event : Event plan old n new) where

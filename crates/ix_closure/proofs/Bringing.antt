@@ -7,8 +7,6 @@ use Rattle.ix_model.specs.declared.sub.Sub.{Sub}
 use Rattle.ix_model.specs.Parts.{Parts}
 use Rattle.ix_model.specs.Planned.{IsPlanned}
 use Rattle.ix_model.specs.SlotPlaces.{HasNext}
-use Rattle.ix_model.specs.Closed as closed
-use Rattle.ix_model.proofs.ClosedLinks as links
 use Rattle.ix_model.proofs.SlotReaders.{next_reads}
 use Rattle.ix_cluster.specs.declared.answers.Arrived.TheVariants.{Fresh, Known}
 use Rattle.ix_cluster.specs.declared.answers.Claimed.TheVariants as whose
@@ -20,17 +18,17 @@ use Rattle.ix_cluster.specs.Facts.{has, put}
 use Rattle.ix_cluster.specs.Firsts.{firsts_of}
 use Rattle.ix_cluster.specs.Lists.{cluster}
 use Rattle.ix_cluster.specs.Steps.{after_call, edges_in, ends_in}
-use Rattle.ix_cluster.proofs.Calls.{IsBegun, call-from, call-desc}
-use Rattle.ix_cluster.proofs.Counts.{either}
-use Rattle.ix_cluster.proofs.Members.{first_has, one_has, none_has, has-Contains, Contains-has, put-keeps, put-there, put-from}
+use Rattle.ix_cluster.proofs.Calls.{IsBegun, call-desc}
+use Rattle.ix_cluster.proofs.Members.{first_has, one_has, none_has, has-Contains, Contains-has, put-keeps, put-there}
 use Rattle.ix_closure.specs.declared.owed.Owed.{Owed}
 use Rattle.ix_closure.specs.declared.owed.Owed.TheVariants.{Claim, Edge, End, Arrive}
 use Rattle.ix_closure.specs.Due.{IsDue, claim, passed, inserted, waits, ends, meets}
 use Rattle.ix_closure.specs.Events.{log_after}
 use Rattle.ix_closure.specs.Follows.{fact_of, sub_of, arrival, claims_at, claim_of, FollowsDesc, FollowsClaim, Follows}
 use Rattle.ix_closure.proofs.ClusterLists.{edges_have, ends_have, edges_from, ends_from}
-use Rattle.ix_closure.proofs.DueCauses.{cause_of}
+use Rattle.ix_closure.proofs.DueCauses.{cause_of, edge_next}
 use Rattle.ix_closure.proofs.Following.{follows_same, follows_due}
+use Rattle.ix_closure.proofs.Logs.{IsBeside, newly_recorded}
 use Rattle.ix_closure.proofs.Members.{map_has, map_from}
 use Rattle.ix_closure.proofs.NewCauses.{IsNewlyDue, by_desc, by_claim, by_edge, by_end, due_grows, due_split}
 use Rattle.ix_closure.proofs.Recording.{Moves}
@@ -44,46 +42,27 @@ pub record Brings (plan : Parts) (Before After : Fact → Type 0) (o : Owed) (mo
 -- what follows from a fact alone, where it is a claim
 FollowsOf : Parts → Fact → List Owed → Type 0
 FollowsOf plan (fact.Claim s l p) more = FollowsDesc plan s l p more
-FollowsOf plan (fact.Called r k) more = ⊥
-FollowsOf plan (fact.Edge r k s l) more = ⊥
-FollowsOf plan (fact.End r k e) more = ⊥
-FollowsOf plan (fact.Desc s l p) more = ⊥
-FollowsOf plan (fact.Part sub) more = ⊥
+FollowsOf plan f more = ⊥
+
+-- the claim of a descriptor
+claim_for : Fact → List Owed
+claim_for (fact.Desc s l p) = Claim s l p ∷ []
+claim_for f = []
 
 -- what an edge or an end gives with the ends or edges of its cluster
 joins_of : List Fact → Fact → List Owed
 joins_of log (fact.End r k e) = map (arrival k e) (edges_in log (cluster r k))
 joins_of log (fact.Edge r k s l) = map (λ e. arrival k e (record { slot = s; left = l })) (ends_in log (cluster r k))
-joins_of log (fact.Called r k) = []
-joins_of log (fact.Desc s l p) = []
-joins_of log (fact.Part sub) = []
-joins_of log (fact.Claim s l p) = []
+joins_of log f = []
 
--- an edge of the fact's cluster, and an end of it
+-- an edge of an end's cluster, and an end of an edge's
 edge_at : Fact → ℕ → ℕ → Fact
 edge_at (fact.End r k e) s l = fact.Edge r k s l
-edge_at (fact.Edge r k x y) s l = fact.Edge r k s l
-edge_at (fact.Called r k) s l = fact.Edge r k s l
-edge_at (fact.Desc x y p) s l = fact.Desc x y p
-edge_at (fact.Part sub) s l = fact.Part sub
-edge_at (fact.Claim x y p) s l = fact.Claim x y p
+edge_at f s l = f
 
 end_at : Fact → ℕ → Fact
-end_at (fact.End r k x) e = fact.End r k e
 end_at (fact.Edge r k s l) e = fact.End r k e
-end_at (fact.Called r k) e = fact.End r k e
-end_at (fact.Desc s l p) e = fact.Desc s l p
-end_at (fact.Part sub) e = fact.Part sub
-end_at (fact.Claim s l p) e = fact.Claim s l p
-
--- the claim of a descriptor
-claim_for : Fact → List Owed
-claim_for (fact.Desc s l p) = Claim s l p ∷ []
-claim_for (fact.Called r k) = []
-claim_for (fact.Edge r k s l) = []
-claim_for (fact.End r k e) = []
-claim_for (fact.Part sub) = []
-claim_for (fact.Claim s l p) = []
+end_at f e = f
 
 module _ (plan : Parts) (planned : IsPlanned plan) (Mine Before After : Fact → Type 0) (log : List Fact) (true_fact : (f : Fact) → Before f → IsInClosed plan f) where
   -- a step that records nothing
@@ -94,29 +73,31 @@ module _ (plan : Parts) (planned : IsPlanned plan) (Mine Before After : Fact →
     causes = λ x h. absurd (none_has x h);
   }
 
+  -- a step that records its fact
+  active : (o : Owed) (more : List Owed) → Moves Mine Before After log (log_after plan log o) → After (fact_of o) → ((x : Owed) → IsNewlyDue plan (λ f. (fact_of o ≡ f) ⊎ IsBeside plan log o f) After x → Contains more x) → ((x : Owed) → Contains more x → IsDue plan After x) → Brings plan Before After o more
+  active o more m made newly causes = record {
+    done = made;
+    newly = λ x d. elim (due_split plan Before After (λ f. (fact_of o ≡ f) ⊎ IsBeside plan log o f) (newly_recorded plan Mine Before After log o m) x d) [ inl b ↦ inl b | inr n ↦ inr (newly x n) ];
+    causes = causes;
+  }
+
   -- a claim
   module _ (s l p : ℕ) where
-    claim_mine : (more : List Owed) → Moves Mine Before After log (put log (fact.Claim s l p)) → FollowsDesc plan s l p more → Brings plan Before After (Claim s l p) more
-    unfolding FollowsOf
-    claim_mine more m follows = record {
-      done = made;
-      newly = λ x d. elim (due_split plan Before After (λ f. fact.Claim s l p ≡ f) from x d) [ inl b ↦ inl b | inr n ↦ inr (newly x n) ];
-      causes = λ x h. follows_due plan After s l p more x made follows h;
-    }
+    claim_new : (more : List Owed) → Moves Mine Before After log (log_after plan log (Claim s l p)) → After (fact.Claim s l p) → FollowsDesc plan s l p more → Brings plan Before After (Claim s l p) more
+    unfolding FollowsOf IsBeside
+    claim_new more m made follows = active (Claim s l p) more m made newly (λ x h. follows_due plan After s l p more x made follows h)
       where
-        made : After (fact.Claim s l p)
-        made = m.made (fact.Claim s l p) (put-there log (fact.Claim s l p))
-
-        from : (f : Fact) → After f → Before f ⊎ (fact.Claim s l p ≡ f)
-        from f h = elim (m.from f h) [ inl b ↦ inl b | inr w ↦ elim (put-from log (fact.Claim s l p) f w) [ inl o ↦ inl (m.back f o) | inr e ↦ inr e ] ]
-
-        newly : (x : Owed) → IsNewlyDue plan (λ f. fact.Claim s l p ≡ f) After x → Contains more x
-        newly x (by_desc a b c e) = absurd (cc)
-        newly x (by_claim a b c o e w) =
+        newly : (x : Owed) → IsNewlyDue plan (λ f. (fact.Claim s l p ≡ f) ⊎ IsBeside plan log (Claim s l p) f) After x → Contains more x
+        newly x (by_desc a b c (inl e)) = absurd (cc)
+        newly x (by_claim a b c o (inl e) w) =
             let here : FollowsDesc plan s l p (o ∷ []) = subst (λ f. FollowsOf plan f (o ∷ [])) (sym e) w in
             subst (λ (z : List Owed). Contains z o) (follows_same plan planned s l p (o ∷ []) more here follows) (first_has o [])
-        newly x (by_edge a b c d e after mark w end next) = absurd (cc)
-        newly x (by_end a b c d e after mark edge w next) = absurd (cc)
+        newly x (by_edge a b c d e after mark (inl w) end next) = absurd (cc)
+        newly x (by_end a b c d e after mark edge (inl w) next) = absurd (cc)
+        newly x (by_desc a b c (inr none)) = absurd none
+        newly x (by_claim a b c o (inr none) w) = absurd none
+        newly x (by_edge a b c d e after mark (inr none) end next) = absurd none
+        newly x (by_end a b c d e after mark edge (inr none) next) = absurd none
 
     pub claim_brings : (more : List Owed) → IsDue plan Before (Claim s l p) → Mine (fact.Desc s l p) → Moves Mine Before After log (log_after plan log (Claim s l p)) → Follows plan log (Claim s l p) more → Brings plan Before After (Claim s l p) more
     claim_brings more due mine m follows = by (has log (fact.Desc s l p)) (has log (fact.Claim s l p)) refl refl m follows
@@ -124,26 +105,25 @@ module _ (plan : Parts) (planned : IsPlanned plan) (Mine Before After : Fact →
         there : has log (fact.Desc s l p) ≡ true
         there = has-Contains log (fact.Desc s l p) (m.here (fact.Desc s l p) mine (cause_of plan planned Before (Claim s l p) due))
 
+        recorded : Contains (log_after plan log (Claim s l p)) (fact.Claim s l p)
+        recorded = subst (λ d. Contains (cond d (put log (fact.Claim s l p)) log) (fact.Claim s l p)) (sym there) (put-there log (fact.Claim s l p))
+
         by : (d c : Bool) → has log (fact.Desc s l p) ≡ d → has log (fact.Claim s l p) ≡ c → Moves Mine Before After log (cond d (cond c log (log ++ fact.Claim s l p ∷ [])) log) → FollowsClaim plan (cond d (cond c whose.Taken whose.Mine) whose.Unknown) s l p more → Brings plan Before After (Claim s l p) more
         by false c v w n f = absurd (cc (there, v))
         by true true v w n f = subst (Brings plan Before After (Claim s l p)) (sym f) (idle (Claim s l p) n (n.back (fact.Claim s l p) (Contains-has log (fact.Claim s l p) w)))
-        by true false v w n f = claim_mine more (subst (λ c. Moves Mine Before After log (cond c log (log ++ fact.Claim s l p ∷ []))) (sym w) n) f
+        by true false v w n f = claim_new more m (m.made (fact.Claim s l p) recorded) f
 
   -- an end
   module _ (r k e : ℕ) (mine : (s l : ℕ) → Mine (fact.Edge r k s l)) where
-    end_new : Moves Mine Before After log (put log (fact.End r k e)) → IsInClosed plan (fact.End r k e) → Brings plan Before After (End r k e) (map (arrival k e) (edges_in log (cluster r k)))
-    unfolding joins_of edge_at
-    end_new m closed = record {
-      done = made;
-      newly = λ x d. elim (due_split plan Before After (λ f. fact.End r k e ≡ f) from x d) [ inl b ↦ inl b | inr n ↦ inr (newly x n) ];
-      causes = causes;
-    }
+    end_new : Moves Mine Before After log (put log (fact.End r k e)) → Brings plan Before After (End r k e) (map (arrival k e) (edges_in log (cluster r k)))
+    unfolding joins_of edge_at IsBeside
+    end_new m = active (End r k e) (map (arrival k e) (edges_in log (cluster r k))) m made newly causes
       where
         made : After (fact.End r k e)
         made = m.made (fact.End r k e) (put-there log (fact.End r k e))
 
-        from : (f : Fact) → After f → Before f ⊎ (fact.End r k e ≡ f)
-        from f h = elim (m.from f h) [ inl b ↦ inl b | inr w ↦ elim (put-from log (fact.End r k e) f w) [ inl o ↦ inl (m.back f o) | inr e ↦ inr e ] ]
+        old_edge : (r' k' s l : ℕ) → After (fact.Edge r' k' s l) → Before (fact.Edge r' k' s l)
+        old_edge r' k' s l h = elim (newly_recorded plan Mine Before After log (End r k e) m (fact.Edge r' k' s l) h) [ inl b ↦ b | inr n ↦ elim n [ inl w ↦ absurd (cc w) | inr none ↦ absurd none ] ]
 
         met : (r' k' s l e' after : ℕ) (mark : Option Mark) → Before (fact.Edge r' k' s l) → fact.End r k e ≡ fact.End r' k' e' → HasNext plan s after (sy.Rule r' mark) → Contains (map (arrival k e) (edges_in log (cluster r k))) (Arrive (sub_of after l k' e'))
         met r' k' s l e' after mark edge w next =
@@ -153,64 +133,45 @@ module _ (plan : Parts) (planned : IsPlanned plan) (Mine Before After : Fact →
             subst (λ n. Contains (map (arrival k e) (edges_in log (cluster r k))) (Arrive (sub_of n l k' e'))) number
             (subst (λ f. Contains (joins_of log f) (Arrive (sub_of (s + 1) l k' e'))) (sym w) in_list)
 
-        newly : (x : Owed) → IsNewlyDue plan (λ f. fact.End r k e ≡ f) After x → Contains (map (arrival k e) (edges_in log (cluster r k))) x
-        newly x (by_desc a b c w) = absurd (cc)
-        newly x (by_claim a b c o w f) = absurd (cc)
-        newly x (by_edge a b c d x' after mark w end next) = absurd (cc)
-        newly x (by_end r' k' s l e' after mark edge w next) = elim (from (fact.Edge r' k' s l) edge) [ inl b ↦ met r' k' s l e' after mark b w next | inr q ↦ absurd (cc) ]
+        newly : (x : Owed) → IsNewlyDue plan (λ f. (fact.End r k e ≡ f) ⊎ IsBeside plan log (End r k e) f) After x → Contains (map (arrival k e) (edges_in log (cluster r k))) x
+        newly x (by_desc a b c (inl w)) = absurd (cc)
+        newly x (by_claim a b c o (inl w) f) = absurd (cc)
+        newly x (by_edge a b c d x' after mark (inl w) end next) = absurd (cc)
+        newly x (by_end r' k' s l e' after mark edge (inl w) next) = met r' k' s l e' after mark (old_edge r' k' s l edge) w next
+        newly x (by_desc a b c (inr none)) = absurd none
+        newly x (by_claim a b c o (inr none) f) = absurd none
+        newly x (by_edge a b c d x' after mark (inr none) end next) = absurd none
+        newly x (by_end r' k' s l e' after mark edge (inr none) next) = absurd none
 
         causes : (x : Owed) → Contains (map (arrival k e) (edges_in log (cluster r k))) x → IsDue plan After x
         causes x h =
             let a = map_from (arrival k e) (edges_in log (cluster r k)) x h in
             let there = m.back (fact.Edge r k a.0.slot a.0.left) (edges_from (cluster r k) log a.0 a.1) in
-            let next = (links.edge_from plan r k a.0.slot a.0.left (true_fact (fact.Edge r k a.0.slot a.0.left) there)).1 in
-            let number : next.0 ≡ a.0.slot + 1 = (next_reads plan planned a.0.slot next.0 (sy.Rule r next.1) next.2).2 in
-            let due = meets r k a.0.slot a.0.left e next.0 next.1 (m.grows (fact.Edge r k a.0.slot a.0.left) there) made next.2 in
-            subst (IsDue plan After) (ap (λ n. Arrive (sub_of n a.0.left k e)) number ∙ a.2) due
+            let next = edge_next plan planned r k a.0.slot a.0.left (true_fact (fact.Edge r k a.0.slot a.0.left) there) in
+            subst (IsDue plan After) a.2 (meets r k a.0.slot a.0.left e (a.0.slot + 1) next.0 (m.grows (fact.Edge r k a.0.slot a.0.left) there) made next.1)
 
-    pub end_brings : (more : List Owed) → IsDue plan Before (End r k e) → IsInClosed plan (fact.End r k e) → Moves Mine Before After log (log_after plan log (End r k e)) → Follows plan log (End r k e) more → Brings plan Before After (End r k e) more
-    end_brings more due closed m follows = subst (Brings plan Before After (End r k e)) (sym follows) (by (has log (fact.End r k e)) refl m)
+    pub end_brings : (more : List Owed) → Moves Mine Before After log (log_after plan log (End r k e)) → Follows plan log (End r k e) more → Brings plan Before After (End r k e) more
+    end_brings more m follows = subst (Brings plan Before After (End r k e)) (sym follows) (by (has log (fact.End r k e)) refl m)
       where
         by : (b : Bool) → has log (fact.End r k e) ≡ b → Moves Mine Before After log (cond b log (log ++ fact.End r k e ∷ [])) → Brings plan Before After (End r k e) (map (arrival k e) (cond b [] (edges_in log (cluster r k))))
         by true w n = idle (End r k e) n (n.back (fact.End r k e) (Contains-has log (fact.End r k e) w))
-        by false w n = end_new (subst (λ b. Moves Mine Before After log (cond b log (log ++ fact.End r k e ∷ []))) (sym w) n) closed
+        by false w n = end_new m
 
   -- an arrival
   module _ (sub : Sub) where
-    desc : Fact
-    desc = fact.Desc sub.slot sub.left sub.right
-
     pub arrival_brings : (more : List Owed) → Moves Mine Before After log (log_after plan log (Arrive sub)) → Follows plan log (Arrive sub) more → Brings plan Before After (Arrive sub) more
-    unfolding claim_for desc
-    arrival_brings more m follows = subst (Brings plan Before After (Arrive sub)) (sym follows) (record {
-      done = m.made (fact.Part sub) (put-keeps (put log (fact.Part sub)) (fact.Desc sub.slot sub.left sub.right) (fact.Part sub) (put-there log (fact.Part sub)));
-      newly = λ x d. elim (due_split plan Before After (λ f. (fact.Part sub ≡ f) ⊎ ((has log (fact.Desc sub.slot sub.left sub.right) ≡ false) × (fact.Desc sub.slot sub.left sub.right ≡ f))) from x d) [ inl b ↦ inl b | inr n ↦ inr (newly x n) ];
-      causes = λ x h. causes (has log (fact.Desc sub.slot sub.left sub.right)) x h;
-    })
+    unfolding claim_for IsBeside
+    arrival_brings more m follows =
+        subst (Brings plan Before After (Arrive sub)) (sym follows)
+        (active (Arrive sub) (claim_of (cond (has log (fact.Desc sub.slot sub.left sub.right)) Known Fresh) sub) m
+        (m.made (fact.Part sub) (put-keeps (put log (fact.Part sub)) (fact.Desc sub.slot sub.left sub.right) (fact.Part sub) (put-there log (fact.Part sub))))
+        newly (λ x h. causes (has log (fact.Desc sub.slot sub.left sub.right)) x h))
       where
-        log_from : (f : Fact) → Contains (put (put log (fact.Part sub)) (fact.Desc sub.slot sub.left sub.right)) f → Contains log f ⊎ ((fact.Part sub ≡ f) ⊎ (fact.Desc sub.slot sub.left sub.right ≡ f))
-        log_from f h = elim (put-from (put log (fact.Part sub)) (fact.Desc sub.slot sub.left sub.right) f h) [
-            inl o ↦ elim (put-from log (fact.Part sub) f o) [ inl q ↦ inl q | inr w ↦ inr (inl w) ]
-          | inr w ↦ inr (inr w)
-          ]
-
-        known : (f : Fact) → fact.Desc sub.slot sub.left sub.right ≡ f → Before f ⊎ ((fact.Part sub ≡ f) ⊎ ((has log (fact.Desc sub.slot sub.left sub.right) ≡ false) × (fact.Desc sub.slot sub.left sub.right ≡ f)))
-        known f w = elim (either (has log (fact.Desc sub.slot sub.left sub.right))) [
-            inl t ↦ inl (subst Before w (m.back (fact.Desc sub.slot sub.left sub.right) (Contains-has log (fact.Desc sub.slot sub.left sub.right) t)))
-          | inr n ↦ inr (inr (n, w))
-          ]
-
-        from : (f : Fact) → After f → Before f ⊎ ((fact.Part sub ≡ f) ⊎ ((has log (fact.Desc sub.slot sub.left sub.right) ≡ false) × (fact.Desc sub.slot sub.left sub.right ≡ f)))
-        from f h = elim (m.from f h) [
-            inl b ↦ inl b
-          | inr w ↦ elim (log_from f w) [ inl o ↦ inl (m.back f o) | inr n ↦ elim n [ inl e ↦ inr (inl e) | inr e ↦ known f e ] ]
-          ]
-
         claimed : (s l p : ℕ) (b : Bool) → b ≡ false → fact.Desc sub.slot sub.left sub.right ≡ fact.Desc s l p → Contains (claim_of (cond b Known Fresh) sub) (Claim s l p)
         claimed s l p true w e = absurd (cc)
         claimed s l p false w e = subst (λ f. Contains (claim_for f) (Claim s l p)) (sym e) (first_has (Claim s l p) [])
 
-        newly : (x : Owed) → IsNewlyDue plan (λ f. (fact.Part sub ≡ f) ⊎ ((has log (fact.Desc sub.slot sub.left sub.right) ≡ false) × (fact.Desc sub.slot sub.left sub.right ≡ f))) After x → Contains (claim_of (cond (has log (fact.Desc sub.slot sub.left sub.right)) Known Fresh) sub) x
+        newly : (x : Owed) → IsNewlyDue plan (λ f. (fact.Part sub ≡ f) ⊎ IsBeside plan log (Arrive sub) f) After x → Contains (claim_of (cond (has log (fact.Desc sub.slot sub.left sub.right)) Known Fresh) sub) x
         newly x (by_desc s l p (inl w)) = absurd (cc)
         newly x (by_desc s l p (inr (n, w))) = claimed s l p (has log (fact.Desc sub.slot sub.left sub.right)) n w
         newly x (by_claim a b c o (inl w) f) = absurd (cc)
@@ -228,46 +189,35 @@ module _ (plan : Parts) (planned : IsPlanned plan) (Mine Before After : Fact →
 
   -- an edge
   module _ (r k s l : ℕ) (mine : (e : ℕ) → Mine (fact.End r k e)) where
-    -- what is new by a new edge
-    IsNewBy : Fact → Type 0
-    IsNewBy f = (fact.Edge r k s l ≡ f) ⊎ ((has log (fact.Called r k) ≡ false) × ((fact.Called r k ≡ f) ⊎ IsBegun plan k (firsts_of plan r) f))
+    -- the claims of its cluster, where it calls it, and the arrivals behind the ends that it meets
+    abbrev claims : List Owed
+    claims = cond (not (has log (fact.Called r k))) (claims_at k (firsts_of plan r)) []
 
-    -- which is no end, no claim, and no other edge
-    no_other : (f : Fact) → ((z : ℕ) → fact.Desc z k k ≡ f → ⊥) → ((sub : Sub) → fact.Part sub ≡ f → ⊥) → (fact.Called r k ≡ f → ⊥) → (fact.Edge r k s l ≡ f → ⊥) → IsNewBy f → ⊥
-    unfolding IsNewBy IsBegun
+    abbrev met_ends : List Owed
+    met_ends = map (λ e. arrival k e (record { slot = s; left = l })) (ends_in log (cluster r k))
+
+    -- it records no end, no claim, and no other edge
+    no_other : (f : Fact) → ((z : ℕ) → fact.Desc z k k ≡ f → ⊥) → ((sub : Sub) → fact.Part sub ≡ f → ⊥) → (fact.Called r k ≡ f → ⊥) → (fact.Edge r k s l ≡ f → ⊥) → (fact.Edge r k s l ≡ f) ⊎ IsBeside plan log (Edge r k s l) f → ⊥
+    unfolding IsBeside IsBegun
     no_other f desc part called edge (inl e) = edge e
     no_other f desc part called edge (inr (n, inl e)) = called e
     no_other f desc part called edge (inr (n, inr (z, h, inl e))) = desc z e
     no_other f desc part called edge (inr (n, inr (z, h, inr (w, e)))) = part (sub_of z k k k) e
 
-    more_of : Bool → List Owed
-    more_of c = cond (not c) (claims_at k (firsts_of plan r)) [] ++ map (λ e. arrival k e (record { slot = s; left = l })) (ends_in log (cluster r k))
-
-    edge_new : Moves Mine Before After log (put (after_call plan log r k) (fact.Edge r k s l)) → IsInClosed plan (fact.Edge r k s l) → Brings plan Before After (Edge r k s l) (more_of (has log (fact.Called r k)))
-    unfolding IsNewBy IsBegun more_of joins_of end_at
-    edge_new m closed = record {
-      done = made;
-      newly = λ x d. elim (due_split plan Before After IsNewBy from x d) [ inl b ↦ inl b | inr n ↦ inr (newly x n) ];
-      causes = λ x h. elim (Contains-append_cases (cond (not (has log (fact.Called r k))) (claims_at k (firsts_of plan r)) []) (map (λ e. arrival k e (record { slot = s; left = l })) (ends_in log (cluster r k))) x h) [
-          inl c ↦ claims_due (has log (fact.Called r k)) refl x c
-        | inr a ↦ arrivals_due x a
-        ];
-    }
+    edge_new : has log (fact.Edge r k s l) ≡ false → Moves Mine Before After log (log_after plan log (Edge r k s l)) → IsInClosed plan (fact.Edge r k s l) → Brings plan Before After (Edge r k s l) (claims ++ met_ends)
+    unfolding IsBeside IsBegun joins_of end_at
+    edge_new new m closed =
+        active (Edge r k s l) (claims ++ met_ends) m made newly
+        (λ x h. elim (Contains-append_cases claims met_ends x h) [ inl c ↦ claims_due (has log (fact.Called r k)) refl x c | inr a ↦ arrivals_due x a ])
       where
-        made : After (fact.Edge r k s l)
-        made = m.made (fact.Edge r k s l) (put-there (after_call plan log r k) (fact.Edge r k s l))
+        recorded : (f : Fact) → Contains (put (after_call plan log r k) (fact.Edge r k s l)) f → After f
+        recorded f h = m.made f (subst (λ b. Contains (cond b log (put (after_call plan log r k) (fact.Edge r k s l))) f) (sym new) h)
 
-        from : (f : Fact) → After f → Before f ⊎ IsNewBy f
-        from f h = elim (m.from f h) [
-            inl b ↦ inl b
-          | inr w ↦ elim (put-from (after_call plan log r k) (fact.Edge r k s l) f w) [
-              inl o ↦ elim (call-from plan log r k f o) [ inl q ↦ inl (m.back f q) | inr n ↦ inr (inr n) ]
-            | inr e ↦ inr (inl e)
-            ]
-          ]
+        made : After (fact.Edge r k s l)
+        made = recorded (fact.Edge r k s l) (put-there (after_call plan log r k) (fact.Edge r k s l))
 
         old_end : (r' k' e : ℕ) → After (fact.End r' k' e) → Before (fact.End r' k' e)
-        old_end r' k' e h = elim (from (fact.End r' k' e) h) [ inl b ↦ b | inr n ↦ absurd (no_other (fact.End r' k' e) (λ z w. cc) (λ z w. cc) (λ w. cc) (λ w. cc) n) ]
+        old_end r' k' e h = elim (newly_recorded plan Mine Before After log (Edge r k s l) m (fact.End r' k' e) h) [ inl b ↦ b | inr n ↦ absurd (no_other (fact.End r' k' e) (λ z w. cc) (λ z w. cc) (λ w. cc) (λ w. cc) n) ]
 
         claimed : (z s' l' p : ℕ) (c : Bool) → c ≡ false → Contains (firsts_of plan r) z → fact.Desc z k k ≡ fact.Desc s' l' p → Contains (cond (not c) (claims_at k (firsts_of plan r)) []) (Claim s' l' p)
         claimed z s' l' p true w h e = absurd (cc)
@@ -275,26 +225,21 @@ module _ (plan : Parts) (planned : IsPlanned plan) (Mine Before After : Fact →
             let q : Claim z k k ≡ Claim s' l' p = (cc) in
             subst (Contains (claims_at k (firsts_of plan r))) q (map_has (λ n. Claim n k k) (firsts_of plan r) z h)
 
-        met : (r' k' s' l' e after : ℕ) (mark : Option Mark) → fact.Edge r k s l ≡ fact.Edge r' k' s' l' → Before (fact.End r' k' e) → HasNext plan s' after (sy.Rule r' mark) → Contains (map (λ e. arrival k e (record { slot = s; left = l })) (ends_in log (cluster r k))) (Arrive (sub_of after l' k' e))
+        met : (r' k' s' l' e after : ℕ) (mark : Option Mark) → fact.Edge r k s l ≡ fact.Edge r' k' s' l' → Before (fact.End r' k' e) → HasNext plan s' after (sy.Rule r' mark) → Contains met_ends (Arrive (sub_of after l' k' e))
         met r' k' s' l' e after mark w end next =
             let here = m.here (fact.End r' k' e) (subst (λ f. Mine (end_at f e)) w (mine e)) end in
             let in_list = map_has (λ e. arrival k' e (record { slot = s'; left = l' })) (ends_in log (cluster r' k')) e (ends_have (cluster r' k') log e here) in
             let number : s' + 1 ≡ after = sym (next_reads plan planned s' after (sy.Rule r' mark) next).2 in
-            subst (λ n. Contains (map (λ e. arrival k e (record { slot = s; left = l })) (ends_in log (cluster r k))) (Arrive (sub_of n l' k' e))) number
-            (subst (λ f. Contains (joins_of log f) (Arrive (sub_of (s' + 1) l' k' e))) (sym w) in_list)
+            subst (λ n. Contains met_ends (Arrive (sub_of n l' k' e))) number (subst (λ f. Contains (joins_of log f) (Arrive (sub_of (s' + 1) l' k' e))) (sym w) in_list)
 
-        newly : (x : Owed) → IsNewlyDue plan IsNewBy After x → Contains (cond (not (has log (fact.Called r k))) (claims_at k (firsts_of plan r)) [] ++ map (λ e. arrival k e (record { slot = s; left = l })) (ends_in log (cluster r k))) x
+        newly : (x : Owed) → IsNewlyDue plan (λ f. (fact.Edge r k s l ≡ f) ⊎ IsBeside plan log (Edge r k s l) f) After x → Contains (claims ++ met_ends) x
         newly x (by_desc s' l' p (inl e)) = absurd (cc)
         newly x (by_desc s' l' p (inr (n, inl e))) = absurd (cc)
-        newly x (by_desc s' l' p (inr (n, inr (z, h, inl e)))) =
-            Contains-append_left (cond (not (has log (fact.Called r k))) (claims_at k (firsts_of plan r)) []) (map (λ e. arrival k e (record { slot = s; left = l })) (ends_in log (cluster r k))) (Claim s' l' p)
-            (claimed z s' l' p (has log (fact.Called r k)) n h e)
+        newly x (by_desc s' l' p (inr (n, inr (z, h, inl e)))) = Contains-append_left claims met_ends (Claim s' l' p) (claimed z s' l' p (has log (fact.Called r k)) n h e)
         newly x (by_desc s' l' p (inr (n, inr (z, h, inr (w, e))))) = absurd (cc)
         newly x (by_claim s' l' p o n f) = absurd (no_other (fact.Claim s' l' p) (λ z w. cc) (λ z w. cc) (λ w. cc) (λ w. cc) n)
         newly x (by_end a b c d e after mark edge n next) = absurd (no_other (fact.End a b e) (λ z w. cc) (λ z w. cc) (λ w. cc) (λ w. cc) n)
-        newly x (by_edge r' k' s' l' e after mark (inl w) end next) =
-            Contains-append_right (cond (not (has log (fact.Called r k))) (claims_at k (firsts_of plan r)) []) (map (λ e. arrival k e (record { slot = s; left = l })) (ends_in log (cluster r k))) (Arrive (sub_of after l' k' e))
-            (met r' k' s' l' e after mark w (old_end r' k' e end) next)
+        newly x (by_edge r' k' s' l' e after mark (inl w) end next) = Contains-append_right claims met_ends (Arrive (sub_of after l' k' e)) (met r' k' s' l' e after mark w (old_end r' k' e end) next)
         newly x (by_edge r' k' s' l' e after mark (inr (n, inl w)) end next) = absurd (cc)
         newly x (by_edge r' k' s' l' e after mark (inr (n, inr (z, h, inl w))) end next) = absurd (cc)
         newly x (by_edge r' k' s' l' e after mark (inr (n, inr (z, h, inr (v, w)))) end next) = absurd (cc)
@@ -304,22 +249,19 @@ module _ (plan : Parts) (planned : IsPlanned plan) (Mine Before After : Fact →
         claims_due false w x h =
             let z = map_from (λ n. Claim n k k) (firsts_of plan r) x h in
             let there = put-keeps (after_call plan log r k) (fact.Edge r k s l) (fact.Desc z.0 k k) (call-desc plan log r k w z.0 z.1) in
-            subst (IsDue plan After) z.2 (claim z.0 k k (m.made (fact.Desc z.0 k k) there))
+            subst (IsDue plan After) z.2 (claim z.0 k k (recorded (fact.Desc z.0 k k) there))
 
-        arrivals_due : (x : Owed) → Contains (map (λ e. arrival k e (record { slot = s; left = l })) (ends_in log (cluster r k))) x → IsDue plan After x
+        arrivals_due : (x : Owed) → Contains met_ends x → IsDue plan After x
         arrivals_due x h =
             let e = map_from (λ e. arrival k e (record { slot = s; left = l })) (ends_in log (cluster r k)) x h in
             let end = m.grows (fact.End r k e.0) (m.back (fact.End r k e.0) (ends_from (cluster r k) log e.0 e.1)) in
-            let next = (links.edge_from plan r k s l closed).1 in
-            let number : next.0 ≡ s + 1 = (next_reads plan planned s next.0 (sy.Rule r next.1) next.2).2 in
-            let due = meets r k s l e.0 next.0 next.1 made end next.2 in
-            subst (IsDue plan After) (ap (λ n. Arrive (sub_of n l k e.0)) number ∙ e.2) due
+            let next = edge_next plan planned r k s l closed in
+            subst (IsDue plan After) e.2 (meets r k s l e.0 (s + 1) next.0 made end next.1)
 
     pub edge_brings : (more : List Owed) → IsInClosed plan (fact.Edge r k s l) → Moves Mine Before After log (log_after plan log (Edge r k s l)) → Follows plan log (Edge r k s l) more → Brings plan Before After (Edge r k s l) more
-    unfolding more_of
     edge_brings more closed m follows = subst (Brings plan Before After (Edge r k s l)) (sym follows) (by (has log (fact.Edge r k s l)) refl m)
       where
         by : (b : Bool) → has log (fact.Edge r k s l) ≡ b → Moves Mine Before After log (cond b log (put (after_call plan log r k) (fact.Edge r k s l)))
             → Brings plan Before After (Edge r k s l) (cond (cond b false (not (has log (fact.Called r k)))) (claims_at k (firsts_of plan r)) [] ++ map (λ e. arrival k e (record { slot = s; left = l })) (cond b [] (ends_in log (cluster r k))))
         by true w n = idle (Edge r k s l) n (n.back (fact.Edge r k s l) (Contains-has log (fact.Edge r k s l) w))
-        by false w n = edge_new n closed
+        by false w n = edge_new w m closed
