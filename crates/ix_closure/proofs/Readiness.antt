@@ -1,12 +1,11 @@
 -- The numbers of a step that is owed are in range.
-use Rattle.std.proofs.Common.{◌≡◌, ℕ, ◌+◌, ◌<◌, ◌≤◌, Bool, true, false, cond, List, [], Contains, length, Option, Some, None, IsSome, is_none, get_or, refl, sym, ap, ◌∙◌, subst}
+use Rattle.std.proofs.Common.{◌≡◌, ℕ, ◌+◌, ◌<◌, ◌≤◌, Bool, true, false, cond, List, [], Contains, length, Option, Some, None, IsSome, is_some, refl, sym, ap, ◌∙◌, subst}
 use Rattle.ix_model.specs.declared.rules.Sym.{Sym}
 use Rattle.ix_model.specs.declared.rules.Sym.TheVariants as sy
 use Rattle.ix_model.specs.Parts.{Parts}
 use Rattle.ix_model.specs.Planned.{IsPlanned}
 use Rattle.ix_model.specs.Slots.{sym_after}
 use Rattle.ix_model.specs.Closed as closed
-use Rattle.ix_model.proofs.ClosedLinks as links
 use Rattle.ix_model.proofs.ClosedWithin.{desc_within, edge_within, part_within}
 use Rattle.ix_model.proofs.SlotReaders.{next_reads}
 use Rattle.ix_cluster.specs.declared.cluster.Edge.{Edge as Arc}
@@ -26,19 +25,16 @@ use Rattle.ix_closure.specs.Ready.{HasFurther, HasSlot, IsReady}
 use Rattle.ix_closure.specs.Seen.{State}
 use Rattle.ix_closure.proofs.Causes.{due_closed}
 use Rattle.ix_closure.proofs.ClusterLists.{edges_from}
+use Rattle.ix_closure.proofs.DueCauses.{edge_next}
 use Rattle.ix_closure.proofs.Members.{all_have}
 use Rattle.ix_closure.proofs.Recording.{recorded_closed, recorded_by}
-
-is_some : (o : Option Sym) (x : Sym) → o ≡ Some x → IsSome o
-is_some (Some y) x e = refl
-is_some None x e = absurd (cc)
 
 module _ (plan : Parts) (planned : IsPlanned plan) where
   edge_further : (r k s l : ℕ) → closed.Edge plan r k s l → HasFurther plan s
   edge_further r k s l h =
-      let next = (links.edge_from plan r k s l h).1 in
-      let reads = next_reads plan planned s next.0 (sy.Rule r next.1) next.2 in
-      (reads.0, is_some (sym_after plan s) (sy.Rule r next.1) reads.1)
+      let next = edge_next plan planned r k s l h in
+      let reads = next_reads plan planned s (s + 1) (sy.Rule r next.0) next.1 in
+      (reads.0, ap is_some reads.1)
 
   -- the slot by which the home of a step is told
   pub step_slot : (o : Owed) → IsInClosed plan (fact_of o) → HasSlot plan o
@@ -51,8 +47,9 @@ module _ (plan : Parts) (planned : IsPlanned plan) where
   pub step_ready : (log : List Fact) → ((f : Fact) → Contains log f → IsInClosed plan f) → (o : Owed) → IsInClosed plan (fact_of o) → IsReady plan log o
   step_ready log true_fact (Claim s l p) h = let w = desc_within plan planned s l p h in (w.0, w.2)
   step_ready log true_fact (Edge r k s l) h =
-      let next = (links.edge_from plan r k s l h).1 in
-      ((edge_further r k s l h).0, (edge_within plan planned r k s l h).0, (next.1, (next_reads plan planned s next.0 (sy.Rule r next.1) next.2).1))
+      let next = edge_next plan planned r k s l h in
+      let reads = next_reads plan planned s (s + 1) (sy.Rule r next.0) next.1 in
+      (reads.0, (edge_within plan planned r k s l h).0, (next.0, reads.1))
   step_ready log true_fact (End r k e) h = all_have (λ (edge : Arc). HasFurther plan edge.slot) (end_answer log r k e) (by (has log (fact.End r k e)))
     where
       by : (b : Bool) (a : Arc) → Contains (cond b [] (edges_in log (cluster r k))) a → HasFurther plan a.slot
