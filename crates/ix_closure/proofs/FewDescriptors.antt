@@ -3,8 +3,8 @@ use Rattle.std.proofs.Common.{◌≡◌, ℕ, ◌+◌, ◌*◌, ◌≤◌, ◌<�
 use Rattle.std.specs.List.{IsDistinct, flat_map, range_with_len}
 use Rattle.std.proofs.lemmas.List.{length-map}
 use Rattle.std.proofs.lemmas.List.Concat.{length-flat_map}
-use Rattle.std.proofs.lemmas.List.Elements.{All-from_get_or, Contains-get_or}
-use Rattle.std.proofs.lemmas.List.FromFn.{length-range_with_len, get_or-range_with_len}
+use Rattle.std.proofs.lemmas.List.Elements.{All-from_get_or}
+use Rattle.std.proofs.lemmas.List.FromFn.{length-range_with_len}
 use Rattle.std.proofs.lemmas.List.Sums.{sum_by-le, count_by-le-length}
 use Rattle.ix_model.specs.Parts.{Parts}
 use Rattle.ix_model.specs.Planned.{IsPlanned}
@@ -16,11 +16,8 @@ use Rattle.ix_cluster.specs.ClosedFacts.{IsInClosed}
 use Rattle.ix_cluster.specs.Facts.{same_fact}
 use Rattle.ix_closure.proofs.LogCounts.{tallied}
 use Rattle.ix_closure.proofs.Members.{map_has, flat_has}
+use Rattle.ix_closure.proofs.Ranges.{range_has}
 use Rattle.ix_closure.proofs.Sublists.{fewer}
-
--- each number below n
-range_has : (n k : ℕ) → k < n → Contains (range_with_len 0 n) k
-range_has n k h = subst (Contains (range_with_len 0 n)) (get_or-range_with_len 0 n k 0 h ∙ omega arith) (Contains-get_or (range_with_len 0 n) k 0 (omega (arith, h, length-range_with_len 0 n)))
 
 -- a list of at most m facts for each number below n
 length_each : (f : ℕ → List Fact) (m n : ℕ) → ((k : ℕ) → length (f k) ≤ m) → length (flat_map f (range_with_len 0 n)) ≤ n * m

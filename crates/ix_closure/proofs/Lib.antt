@@ -29,6 +29,7 @@ pub mod Paid
 pub mod Progress
 pub mod Quiet
 pub mod QuietCore
+pub mod Ranges
 pub mod Readiness
 pub mod Recording
 pub mod Sets

@@ -1,10 +1,7 @@
 -- A step brings no more steps than what it adds to its bank's weight.
-use Rattle.std.proofs.Common.{◌≡◌, ℕ, ◌+◌, ◌≤◌, Bool, true, false, cond, not, eqb, List, [], ◌∷◌, ◌++◌, length, length-append, map, Contains, count_by, refl, sym, ap, ◌∙◌, subst, arith}
-use Rattle.std.specs.List.{IsDistinct}
+use Rattle.std.proofs.Common.{◌≡◌, ℕ, ◌+◌, ◌≤◌, Bool, true, false, cond, not, List, [], ◌∷◌, ◌++◌, length, length-append, map, Contains, count_by, refl, sym, ap, ◌∙◌, subst, arith}
 use Rattle.std.proofs.lemmas.Bool.Decides.{nat_tests}
 use Rattle.std.proofs.lemmas.List.{length-map}
-use Rattle.std.proofs.lemmas.List.Elements.{All-from_recursion, All-contains}
-use Rattle.std.proofs.lemmas.Map.Keys.{IsDistinct-head, IsDistinct-tail}
 use Rattle.ix_model.specs.declared.sub.Sub.{Sub}
 use Rattle.ix_model.specs.Parts.{Parts}
 use Rattle.ix_model.specs.Planned.{IsPlanned}
@@ -28,13 +25,14 @@ use Rattle.ix_closure.specs.Follows.{Follows, FollowsClaim, arrival, claims_at, 
 use Rattle.ix_closure.proofs.FirstsOnce.{firsts_once}
 use Rattle.ix_closure.proofs.Following.{follows_few}
 use Rattle.ix_closure.proofs.LogCounts.{count_put, count_put_new, count_call}
+use Rattle.ix_closure.proofs.OnceEach.{IsOnceEach}
 use Rattle.ix_closure.proofs.Weights.{is_claim, weight}
 
 -- ---- a call
 
 module _ (plan : Parts) (k : ℕ) where
   -- the descriptor of another alternative is there as before
-  first_other : (log : List Fact) (s t : ℕ) → eqb s t ≡ false → has (after_first plan k log s) (fact.Desc t k k) ≡ has log (fact.Desc t k k)
+  first_other : (log : List Fact) (s t : ℕ) → (s ≡ t → ⊥) → has (after_first plan k log s) (fact.Desc t k k) ≡ has log (fact.Desc t k k)
   first_other log s t apart = by (is_at_end plan s)
     where
       desc : has (put log (fact.Desc s k k)) (fact.Desc t k k) ≡ has log (fact.Desc t k k)
@@ -51,17 +49,18 @@ module _ (plan : Parts) (k : ℕ) where
       by true = omega (arith, count_put_new is_descriptor log (fact.Desc s k k) none refl, count_put is_descriptor (put log (fact.Desc s k k)) (fact.Part (empty_sub s k)))
       by false = count_put_new is_descriptor log (fact.Desc s k k) none refl
 
-  descriptor_firsts : (firsts : List ℕ) (log : List Fact) → IsDistinct eqb firsts → ((s : ℕ) → Contains firsts s → has log (fact.Desc s k k) ≡ false) → count_by is_descriptor log + length firsts ≤ count_by is_descriptor (after_firsts plan k firsts log)
+  descriptor_firsts : (firsts : List ℕ) (log : List Fact) → IsOnceEach firsts → ((s : ℕ) → Contains firsts s → has log (fact.Desc s k k) ≡ false) → count_by is_descriptor log + length firsts ≤ count_by is_descriptor (after_firsts plan k firsts log)
+  unfolding IsOnceEach
   descriptor_firsts [] log once none = omega arith
   descriptor_firsts (s ∷ ss) log once none =
       omega (
         arith,
         descriptor_first log s (none s (first_has s ss)),
-        descriptor_firsts ss (after_first plan k log s) (IsDistinct-tail eqb s ss once) (λ t h. first_other log s t (All-contains (λ t. eqb s t ≡ false) ss t (All-from_recursion (λ t. eqb s t ≡ false) ss (IsDistinct-head eqb s ss once)) h) ∙ none t (rest_has s ss t h)),
+        descriptor_firsts ss (after_first plan k log s) once.1 (λ t h. first_other log s t (λ e. once.0 (subst (Contains ss) (sym e) h)) ∙ none t (rest_has s ss t h)),
       )
 
   -- a call of alternatives of which none is there adds a descriptor for each
-  pub descriptor_call : (log : List Fact) (r : ℕ) → has log (fact.Called r k) ≡ false → IsDistinct eqb (firsts_of plan r) → ((s : ℕ) → Contains (firsts_of plan r) s → has log (fact.Desc s k k) ≡ false) → count_by is_descriptor log + length (firsts_of plan r) ≤ count_by is_descriptor (after_call plan log r k)
+  pub descriptor_call : (log : List Fact) (r : ℕ) → has log (fact.Called r k) ≡ false → IsOnceEach (firsts_of plan r) → ((s : ℕ) → Contains (firsts_of plan r) s → has log (fact.Desc s k k) ≡ false) → count_by is_descriptor log + length (firsts_of plan r) ≤ count_by is_descriptor (after_call plan log r k)
   descriptor_call log r none once fresh =
       subst (λ b. count_by is_descriptor log + length (firsts_of plan r) ≤ count_by is_descriptor (cond b log (after_firsts plan k (firsts_of plan r) (put log (fact.Called r k))))) (sym none)
       (omega (

@@ -2,8 +2,7 @@
 use Rattle.std.proofs.Common.{◌≡◌, ℕ, ◌+◌, ◌≤◌, Bool, true, false, cond, if◌then◌else◌, List, [], ◌∷◌, Contains, count_by, refl, sym, ap, ◌∙◌, subst, ◌⊎◌, inl, inr, arith, true≢false}
 use Rattle.std.specs.List.{IsDistinct}
 use Rattle.std.proofs.lemmas.Bool.Decides.{nat_tests}
-use Rattle.std.proofs.lemmas.List.Elements.{All-from_recursion, All-contains}
-use Rattle.std.proofs.lemmas.Map.Keys.{IsDistinct-head, IsDistinct-tail}
+use Rattle.std.proofs.lemmas.Map.Keys.{IsDistinct-tail}
 use Rattle.ix_cluster.specs.declared.cluster.Cluster.{Cluster}
 use Rattle.ix_cluster.specs.declared.fact.Fact.{Fact}
 use Rattle.ix_cluster.specs.declared.fact.Fact.TheVariants.{Called, Edge, End, Desc, Part, Claim}
@@ -14,10 +13,7 @@ use Rattle.ix_cluster.specs.Room.{tally}
 use Rattle.ix_cluster.proofs.FactLemmas.{same_fact-true, same_fact-refl}
 use Rattle.ix_cluster.proofs.Handing.{called-none, desc-none, part-none, claim-none}
 use Rattle.ix_cluster.proofs.Members.{first_has, rest_has, either_has, none_has}
-
--- a fact that is once in front is not behind
-pub apart_from : (x : Fact) (xs : List Fact) (f : Fact) → IsDistinct same_fact (x ∷ xs) → Contains xs f → same_fact x f ≡ false
-apart_from x xs f d h = All-contains (λ y. same_fact x y ≡ false) xs f (All-from_recursion (λ y. same_fact x y ≡ false) xs (IsDistinct-head same_fact x xs d)) h
+use Rattle.ix_closure.proofs.OnceEach.{distinct_apart}
 
 same_cluster_symm : (a b : Cluster) → same_cluster a b ≡ same_cluster b a
 same_cluster_symm a b = grind (arith, nat_tests)
@@ -89,7 +85,7 @@ module _ (p q : Fact → Bool) (g : Fact → Fact) (own : (a b : Fact) → p a �
         where
           other : (b : Bool) → same_fact (g x) (g f) ≡ b → same_fact (g x) (g f) ≡ false
           other false o = o
-          other true o = absurd (true≢false (sym (same_fact-refl x) ∙ ap (same_fact x) (own x f e w (same_fact-true (g x) (g f) o)) ∙ apart_from x xs f d h))
+          other true o = absurd (true≢false (sym (same_fact-refl x) ∙ ap (same_fact x) (own x f e w (same_fact-true (g x) (g f) o)) ∙ distinct_apart same_fact x xs d f h))
 
       by : (b : Bool) → p x ≡ b → ((zs : List Fact) → ((f : Fact) → Contains xs f → p f ≡ true → Contains zs (g f) × (q (g f) ≡ true)) → tally p xs ≤ tally q zs) → cond b 1 0 + tally p xs ≤ tally q ys
       by false e rest = omega (arith, rest ys (λ f h w. each f (rest_has x xs f h) w))
@@ -111,7 +107,7 @@ pub fewer_pairs : (xs ys : List Fact) → IsDistinct same_fact xs → ((f : Fact
 fewer_pairs [] ys d within = omega arith
 fewer_pairs (x ∷ xs) ys d within =
     let rest = IsDistinct-tail same_fact x xs d in
-    let left : (f : Fact) → Contains xs f → Contains (without x ys) f = λ f h. without_has x ys f (apart_from x xs f d h) (within f (rest_has x xs f h)) in
+    let left : (f : Fact) → Contains xs f → Contains (without x ys) f = λ f h. without_has x ys f (distinct_apart same_fact x xs d f h) (within f (rest_has x xs f h)) in
     omega (
       arith,
       fewer (meets x) xs (without x ys) rest (λ f h _. left f h),

@@ -1,6 +1,5 @@
 -- An edge keeps a state tidy.
-use Rattle.std.proofs.lemmas.Bool.Decides.{nat_tests}
-use Rattle.std.proofs.Common.{eqb, ◌≡◌, ℕ, ◌+◌, ◌<◌, Bool, true, false, cond, not, List, [], ◌++◌, length, Contains, map, refl, sym, ap, ◌∙◌, subst, ◌⊎◌, inl, inr, arith}
+use Rattle.std.proofs.Common.{◌≡◌, ℕ, ◌+◌, ◌<◌, Bool, true, false, cond, not, List, [], ◌++◌, length, Contains, map, refl, sym, ap, ◌∙◌, subst, ◌⊎◌, inl, inr, arith}
 use Rattle.std.proofs.lemmas.List.Elements.{Contains-append_cases}
 use Rattle.ix_model.specs.declared.rules.Sym.TheVariants as sy
 use Rattle.ix_model.specs.declared.sub.Sub.{Sub}
@@ -27,17 +26,13 @@ use Rattle.ix_closure.specs.Tidy.{IsTidy}
 use Rattle.ix_closure.proofs.ClusterLists.{ends_once}
 use Rattle.ix_closure.proofs.Done.{IsDone, newly, step_owed, tidy_after, ends_kept}
 use Rattle.ix_closure.proofs.DueCauses.{cause_of, edge_next}
-use Rattle.ix_closure.proofs.FirstsOnce.{firsts_once}
+use Rattle.ix_closure.proofs.FirstsOnce.{claims_once}
 use Rattle.ix_closure.proofs.Known.{claim_known, arrival_known}
 use Rattle.ix_closure.proofs.Logs.{IsBeside, has_none, has_not}
 use Rattle.ix_closure.proofs.Members.{map_from}
-use Rattle.ix_closure.proofs.OnceEach.{IsOnceEach, once_distinct, once_map}
+use Rattle.ix_closure.proofs.OnceEach.{once_map}
 use Rattle.ix_closure.proofs.Tidied.{HasCause, IsSingle, IsKnown, begun_cause}
 use Rattle.ix_closure.proofs.Times.{times-append, times-none, times-once}
-
--- the claims at a position are of different slots, each owed once
-pub claims_once : (plan : Parts) → IsPlanned plan → (k r : ℕ) → r < length plan.rules.flats → IsOnceEach (claims_at k (firsts_of plan r))
-claims_once plan planned k r there = once_map (λ s. Claim s k k) (firsts_of plan r) (λ a b h i e. cc) (once_distinct eqb (λ n. grind (arith, nat_tests)) (firsts_of plan r) (firsts_once plan planned r))
 
 module _ (plan : Parts) (planned : IsPlanned plan) (old new : State) (n : ℕ) (log : List Fact) (r k s l : ℕ) (more : List Owed)
     (done : IsDone plan old new n log (Edge r k s l) more) (tidy : IsTidy plan old) where
@@ -102,7 +97,7 @@ module _ (plan : Parts) (planned : IsPlanned plan) (old new : State) (n : ℕ) (
         first = p.0;
         among = p.1;
         is = p.2;
-        once = ap (λ b. times (cond (not b) (claims_at k (firsts_of plan r)) []) x) e ∙ times-once (claims_at k (firsts_of plan r)) x (claims_once plan planned k r there) h;
+        once = ap (λ b. times (cond (not b) (claims_at k (firsts_of plan r)) []) x) e ∙ times-once (claims_at k (firsts_of plan r)) x (claims_once plan planned r k) h;
       }
 
   -- what it brings was not known

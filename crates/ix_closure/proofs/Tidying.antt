@@ -22,11 +22,12 @@ use Rattle.ix_closure.specs.Quantity.{times, givers}
 use Rattle.ix_closure.specs.Seen.{State}
 use Rattle.ix_closure.specs.Tidy.{IsTidy, IsOwedOnce}
 use Rattle.ix_closure.proofs.Done.{IsDone, event_done}
+use Rattle.ix_closure.proofs.FirstsOnce.{claims_once}
 use Rattle.ix_closure.proofs.Members.{map_from, flat_has, flat_from}
 use Rattle.ix_closure.proofs.Tidied.{HasCause, IsSingle, tidy_by, begun_cause}
 use Rattle.ix_closure.proofs.TidyArrive.{arrive_tidy}
 use Rattle.ix_closure.proofs.TidyClaim.{claim_tidy}
-use Rattle.ix_closure.proofs.TidyEdge.{edge_tidy, claims_once}
+use Rattle.ix_closure.proofs.TidyEdge.{edge_tidy}
 use Rattle.ix_closure.proofs.TidyEnd.{end_tidy}
 use Rattle.ix_closure.proofs.Times.{times-none, times-once}
 
@@ -88,7 +89,7 @@ module _ (plan : Parts) (planned : IsPlanned plan) (state : State) (count : ℕ)
 
       once : (x : Owed) → IsSingle x → Contains state.owed x → IsOwedOnce state x
       once x single c = (
-        ap (λ steps. times steps x) owed ∙ times-once (claims_at 0 (firsts_of plan 0)) x (claims_once plan planned 0 0 (omega (arith, planned.first_named, planned.names_within))) (subst (λ steps. Contains steps x) owed c),
+        ap (λ steps. times steps x) owed ∙ times-once (claims_at 0 (firsts_of plan 0)) x (claims_once plan planned 0 0) (subst (λ steps. Contains steps x) owed c),
         (let claim = claim_of x c in λ h. unclaimed claim.0 0 0 (subst (λ y. IsRecorded state.banks (fact_of y)) (sym claim.2) h)),
       )
 
