@@ -6,7 +6,6 @@ use Rattle.ix_model.specs.declared.sub.Sub.{Sub}
 use Rattle.ix_model.specs.Parts.{Parts}
 use Rattle.ix_model.specs.Planned.{IsPlanned}
 use Rattle.ix_model.specs.SlotPlaces.{IsFirst}
-use Rattle.ix_model.proofs.ClosedWithin.{edge_within}
 use Rattle.ix_cluster.specs.declared.fact.Fact.{Fact}
 use Rattle.ix_cluster.specs.declared.fact.Fact.TheVariants as fact
 use Rattle.ix_cluster.specs.Banks.{facts_of}
@@ -14,7 +13,6 @@ use Rattle.ix_cluster.specs.ClosedFacts.{IsInClosed}
 use Rattle.ix_cluster.specs.Facts.{same_fact}
 use Rattle.ix_cluster.specs.Homes.{home_of}
 use Rattle.ix_cluster.specs.Steps.{empty_sub}
-use Rattle.ix_cluster.proofs.Beginning.{firsts_are}
 use Rattle.ix_cluster.proofs.Calls.{IsBegun}
 use Rattle.ix_closure.specs.declared.owed.Owed.{Owed}
 use Rattle.ix_closure.specs.declared.owed.Owed.TheVariants.{Claim, Edge, End, Arrive}
@@ -26,6 +24,7 @@ use Rattle.ix_closure.specs.Quantity.{same_step, times, givers, gives}
 use Rattle.ix_closure.specs.Seen.{State}
 use Rattle.ix_closure.specs.Tidy.{IsTidy, IsOwedOnce}
 use Rattle.ix_closure.proofs.DueCauses.{arrival_not_first}
+use Rattle.ix_closure.proofs.FirstsOnce.{first_of}
 use Rattle.ix_closure.proofs.ListCounts.{count_remove}
 use Rattle.ix_closure.proofs.LogCounts.{count_set, count_after}
 use Rattle.ix_closure.proofs.Logs.{IsBeside, newly_recorded}
@@ -71,26 +70,26 @@ module _ (plan : Parts) (planned : IsPlanned plan) (old new : State) (n : ℕ) (
   newly f h = newly_recorded plan (λ f. home_of plan (length old.banks) f ≡ home_for plan (length old.banks) step) (IsRecorded old.banks) (IsRecorded new.banks) log step done.moves f h
 
   -- beside its own fact a step records none that a due step other than an end is to record
-  beside_none : (o x : Owed) → IsInClosed plan (fact_of o) → IsSingle x → FollowsIn plan new.banks x → IsBeside plan log o (fact_of x) → ⊥
+  beside_none : (o x : Owed) → IsSingle x → FollowsIn plan new.banks x → IsBeside plan log o (fact_of x) → ⊥
   unfolding IsBeside IsBegun
-  beside_none (Claim s l p) x closed single due h = h
-  beside_none (End r k e) x closed single due h = h
-  beside_none (Arrive sub) (Claim s l p) closed single due (n, h) = cc
-  beside_none (Arrive sub) (Edge r k s l) closed single due (n, h) = cc
-  beside_none (Arrive sub) (Arrive sub') closed single due (n, h) = cc
-  beside_none (Arrive sub) (End r k e) closed single due h = single
-  beside_none (Edge r k s l) (Claim s' l' p') closed single due (e, inl h) = cc
-  beside_none (Edge r k s l) (Claim s' l' p') closed single due (e, inr (t, m, inl h)) = cc
-  beside_none (Edge r k s l) (Claim s' l' p') closed single due (e, inr (t, m, inr (z, h))) = cc
-  beside_none (Edge r k s l) (Edge r' k' s' l') closed single due (e, inl h) = cc
-  beside_none (Edge r k s l) (Edge r' k' s' l') closed single due (e, inr (t, m, inl h)) = cc
-  beside_none (Edge r k s l) (Edge r' k' s' l') closed single due (e, inr (t, m, inr (z, h))) = cc
-  beside_none (Edge r k s l) (End r' k' e') closed single due h = single
-  beside_none (Edge r k s l) (Arrive sub) closed single due (e, inl h) = cc
-  beside_none (Edge r k s l) (Arrive sub) closed single due (e, inr (t, m, inl h)) = cc
-  beside_none (Edge r k s l) (Arrive sub) closed single due (e, inr (t, m, inr (z, h))) =
+  beside_none (Claim s l p) x single due h = h
+  beside_none (End r k e) x single due h = h
+  beside_none (Arrive sub) (Claim s l p) single due (n, h) = cc
+  beside_none (Arrive sub) (Edge r k s l) single due (n, h) = cc
+  beside_none (Arrive sub) (Arrive sub') single due (n, h) = cc
+  beside_none (Arrive sub) (End r k e) single due h = single
+  beside_none (Edge r k s l) (Claim s' l' p') single due (e, inl h) = cc
+  beside_none (Edge r k s l) (Claim s' l' p') single due (e, inr (t, m, inl h)) = cc
+  beside_none (Edge r k s l) (Claim s' l' p') single due (e, inr (t, m, inr (z, h))) = cc
+  beside_none (Edge r k s l) (Edge r' k' s' l') single due (e, inl h) = cc
+  beside_none (Edge r k s l) (Edge r' k' s' l') single due (e, inr (t, m, inl h)) = cc
+  beside_none (Edge r k s l) (Edge r' k' s' l') single due (e, inr (t, m, inr (z, h))) = cc
+  beside_none (Edge r k s l) (End r' k' e') single due h = single
+  beside_none (Edge r k s l) (Arrive sub) single due (e, inl h) = cc
+  beside_none (Edge r k s l) (Arrive sub) single due (e, inr (t, m, inl h)) = cc
+  beside_none (Edge r k s l) (Arrive sub) single due (e, inr (t, m, inr (z, h))) =
       let slot : t ≡ sub.slot = ap (λ (u : Sub). u.slot) (same_sub h) in
-      arrival_not_first plan planned (IsRecorded new.banks) sub due r (subst (λ (u : ℕ). IsFirst plan u r) slot (firsts_are plan planned r t (edge_within plan planned r k s l closed).0 m))
+      arrival_not_first plan planned (IsRecorded new.banks) sub due r (subst (λ (u : ℕ). IsFirst plan u r) slot (first_of plan planned r t m))
     where
       same_sub : fact.Part (empty_sub t k) ≡ fact.Part sub → empty_sub t k ≡ sub
       same_sub w = cc
@@ -99,7 +98,7 @@ module _ (plan : Parts) (planned : IsPlanned plan) (old new : State) (n : ℕ) (
   only_step : (x : Owed) → IsSingle x → FollowsIn plan new.banks x → IsRecorded new.banks (fact_of x) → IsRecorded old.banks (fact_of x) ⊎ (x ≡ step)
   only_step x single due h = elim (newly (fact_of x) h) [
     | inl o ↦ inl o
-    | inr w ↦ elim w [ inl e ↦ inr (sym (fact_of-same step x e)) | inr b ↦ absurd (beside_none step x done.closed single due b) ]
+    | inr w ↦ elim w [ inl e ↦ inr (sym (fact_of-same step x e)) | inr b ↦ absurd (beside_none step x single due b) ]
   ]
 
   -- the state stays tidy where what is recorded now has its cause, each step that is brought is brought once and was not known,

@@ -26,23 +26,19 @@ use Rattle.ix_closure.specs.Quantity.{step_bound}
 use Rattle.ix_closure.specs.Runs.{Run, rests, goes_on}
 use Rattle.ix_closure.specs.Seen.{State}
 use Rattle.ix_closure.specs.Tidy.{IsTidy}
-use Rattle.ix_closure.proofs.FirstsOnce.{rule_with_alternatives, firsts_once}
+use Rattle.ix_closure.proofs.FirstsOnce.{first_of, firsts_once}
 use Rattle.ix_closure.proofs.InClosure.{weight_sound}
 use Rattle.ix_closure.proofs.Paid.{IsFresh, descriptor_call, step_paid}
 use Rattle.ix_closure.proofs.Recording.{recorded_by, recorded_home}
 use Rattle.ix_closure.proofs.Weights.{weight_in, weight_set}
 
 module _ (plan : Parts) (planned : IsPlanned plan) where
-  -- what is among the first slots of a rule is one of its alternatives'
-  first_of : (r s : ℕ) → Contains (firsts_of plan r) s → IsFirst plan s r
-  first_of r s h = firsts_are plan planned r s (rule_with_alternatives plan.rules r (omega (arith, h.1, length-map-range_with_len (first_slot plan r) 0 (length (lines_at plan.rules r))))) h
-
   -- in a tidy state no bank has begun an alternative of a rule that is not called
   tidy_fresh : (state : State) → IsTidy plan state → (m : ℕ) (bank : Bank) → slice_get state.banks m ≡ Some bank → IsFresh plan bank.log
   tidy_fresh state tidy m bank there r k none s h = by (has bank.log (fact.Desc s k k)) refl
     where
       first : IsFirst plan s r
-      first = first_of r s h
+      first = first_of plan planned r s h
 
       here : Contains bank.log (fact.Desc s k k) → Contains bank.log (fact.Called r k)
       here d =

@@ -1,6 +1,7 @@
 -- The first slots of a rule's alternatives differ.
 use Rattle.std.proofs.Common.{◌≡◌, ℕ, ◌+◌, ◌<◌, [], length, Option, Some, None, Contains, slice_get, option_map, unwrap_or, refl, sym, ap, subst, arith}
 use Rattle.std.specs.List.{range_with_len}
+use Rattle.std.proofs.lemmas.List.FromFn.{length-map-range_with_len}
 use Rattle.std.proofs.lemmas.Option.{slice_get_within}
 use Rattle.ix_model.specs.declared.rules.Flat.{Flat}
 use Rattle.ix_model.specs.declared.rules.Rules.{Rules}
@@ -8,18 +9,19 @@ use Rattle.ix_model.specs.FlatDerives.{IsLine}
 use Rattle.ix_model.specs.Numbered.{lines_at}
 use Rattle.ix_model.specs.Parts.{Parts}
 use Rattle.ix_model.specs.Planned.{IsPlanned}
+use Rattle.ix_model.specs.SlotPlaces.{IsFirst}
 use Rattle.ix_model.specs.Slots.{IsSlot}
 use Rattle.ix_model.proofs.Readers.{has_line}
 use Rattle.ix_model.proofs.SlotPlaces.{slot_for, same_slot}
 use Rattle.ix_cluster.specs.Firsts.{first_slot, firsts_of}
-use Rattle.ix_cluster.proofs.Beginning.{first_is_slot}
+use Rattle.ix_cluster.proofs.Beginning.{first_is_slot, firsts_are}
 use Rattle.ix_closure.specs.declared.owed.Owed.TheVariants.{Claim}
 use Rattle.ix_closure.specs.Follows.{claims_at}
 use Rattle.ix_closure.proofs.OnceEach.{IsOnceEach, once_map}
 use Rattle.ix_closure.proofs.Ranges.{range_within, once_range}
 
 -- a rule that has an alternative is there
-pub rule_with_alternatives : (rules : Rules) (r : ℕ) → 0 < length (lines_at rules r) → r < length rules.flats
+rule_with_alternatives : (rules : Rules) (r : ℕ) → 0 < length (lines_at rules r) → r < length rules.flats
 rule_with_alternatives rules r some = by (slice_get rules.flats r) refl
   where
     by : (flat : Option Flat) → slice_get rules.flats r ≡ flat → r < length rules.flats
@@ -27,6 +29,10 @@ rule_with_alternatives rules r some = by (slice_get rules.flats r) refl
     by None e = let none = ap (λ (o : Option Flat). length (unwrap_or (option_map (λ (flat : Flat). flat.lines) o) [])) e in absurd (omega (arith, some, none))
 
 module _ (plan : Parts) (planned : IsPlanned plan) (r : ℕ) where
+  -- what is among the first slots is one of the rule's
+  pub first_of : (s : ℕ) → Contains (firsts_of plan r) s → IsFirst plan s r
+  first_of s h = firsts_are plan planned r s (rule_with_alternatives plan.rules r (omega (arith, h.1, length-map-range_with_len (first_slot plan r) 0 (length (lines_at plan.rules r))))) h
+
   -- the first slot of an alternative is the slot with its dot at the beginning
   first_stands : (a : ℕ) → a < length (lines_at plan.rules r) → IsSlot plan (first_slot plan r a) r a 0
   first_stands a h =

@@ -8,7 +8,7 @@ use Rattle.ix_cluster.specs.declared.fact.Fact.TheVariants as fact
 use Rattle.ix_cluster.specs.Banks.{facts_of}
 use Rattle.ix_cluster.proofs.Calls.{IsBegun}
 use Rattle.ix_cluster.specs.Firsts.{firsts_of}
-use Rattle.ix_cluster.proofs.Beginning.{firsts_are, ends_at_once}
+use Rattle.ix_cluster.proofs.Beginning.{ends_at_once}
 use Rattle.ix_model.proofs.SlotReaders.{first_reads}
 use Rattle.ix_closure.specs.declared.owed.Owed.{Owed}
 use Rattle.ix_closure.specs.declared.owed.Owed.TheVariants.{Claim, Edge, End, Arrive}
@@ -18,6 +18,7 @@ use Rattle.ix_closure.specs.Follows.{fact_of, sub_of}
 use Rattle.ix_closure.specs.Quantity.{times, givers}
 use Rattle.ix_closure.specs.Seen.{State}
 use Rattle.ix_closure.specs.Tidy.{IsTidy, IsEmptyOfCalled, IsOwedOnce}
+use Rattle.ix_closure.proofs.FirstsOnce.{first_of}
 use Rattle.ix_closure.proofs.NewCauses.{due_grows}
 
 -- what must be recorded for the fact to be recorded
@@ -85,10 +86,10 @@ cause_grows plan old new grows (fact.End r k e) h = tt
 cause_grows plan old new grows (fact.Claim s l p) h = tt
 
 -- what the beginning of a called rule's alternatives records has its cause
-pub begun_cause : (plan : Parts) → IsPlanned plan → (state : State) (r k : ℕ) → r < length plan.rules.flats → IsRecorded state.banks (fact.Called r k) → (f : Fact) → IsBegun plan k (firsts_of plan r) f → HasCause plan state f
+pub begun_cause : (plan : Parts) → IsPlanned plan → (state : State) (r k : ℕ) → IsRecorded state.banks (fact.Called r k) → (f : Fact) → IsBegun plan k (firsts_of plan r) f → HasCause plan state f
 unfolding IsBegun
-begun_cause plan planned state r k there called f begun =
-    let first = firsts_are plan planned r begun.0 there begun.1 in
+begun_cause plan planned state r k called f begun =
+    let first = first_of plan planned r begun.0 begun.1 in
     elim begun.2 [
       | inl e ↦ subst (HasCause plan state) e (
         (λ q other. subst (λ (z : ℕ). IsRecorded state.banks (fact.Called z k)) (sym (first_reads plan begun.0 r first).1 ∙ (first_reads plan begun.0 q other).1) called),

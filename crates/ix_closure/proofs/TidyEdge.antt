@@ -5,14 +5,12 @@ use Rattle.ix_model.specs.declared.rules.Sym.TheVariants as sy
 use Rattle.ix_model.specs.declared.sub.Sub.{Sub}
 use Rattle.ix_model.specs.Parts.{Parts}
 use Rattle.ix_model.specs.Planned.{IsPlanned}
-use Rattle.ix_model.proofs.ClosedWithin.{edge_within}
 use Rattle.ix_cluster.specs.declared.fact.Fact.{Fact}
 use Rattle.ix_cluster.specs.declared.fact.Fact.TheVariants as fact
 use Rattle.ix_cluster.specs.Facts.{has, put}
 use Rattle.ix_cluster.specs.Firsts.{firsts_of}
 use Rattle.ix_cluster.specs.Lists.{cluster}
 use Rattle.ix_cluster.specs.Steps.{ends_in, after_call}
-use Rattle.ix_cluster.proofs.Beginning.{firsts_are}
 use Rattle.ix_cluster.proofs.Calls.{call-there}
 use Rattle.ix_cluster.proofs.Members.{none_has, put-keeps}
 use Rattle.ix_closure.specs.declared.owed.Owed.{Owed}
@@ -26,7 +24,7 @@ use Rattle.ix_closure.specs.Tidy.{IsTidy}
 use Rattle.ix_closure.proofs.ClusterLists.{ends_once}
 use Rattle.ix_closure.proofs.Done.{IsDone, newly, step_owed, tidy_after, ends_kept}
 use Rattle.ix_closure.proofs.DueCauses.{cause_of, edge_next}
-use Rattle.ix_closure.proofs.FirstsOnce.{claims_once}
+use Rattle.ix_closure.proofs.FirstsOnce.{first_of, claims_once}
 use Rattle.ix_closure.proofs.Known.{claim_known, arrival_known}
 use Rattle.ix_closure.proofs.Logs.{IsBeside, has_none, has_not}
 use Rattle.ix_closure.proofs.Members.{map_from}
@@ -36,9 +34,6 @@ use Rattle.ix_closure.proofs.Times.{times-append, times-none, times-once}
 
 module _ (plan : Parts) (planned : IsPlanned plan) (old new : State) (n : ℕ) (log : List Fact) (r k s l : ℕ) (more : List Owed)
     (done : IsDone plan old new n log (Edge r k s l) more) (tidy : IsTidy plan old) where
-  there : r < length plan.rules.flats
-  there = (edge_within plan planned r k s l done.closed).0
-
   -- the edge is not recorded before
   unmet : ¬ (IsRecorded old.banks (fact.Edge r k s l))
   unmet = (tidy.owed_edges r k s l (step_owed plan planned old new n log (Edge r k s l) more done)).1
@@ -60,7 +55,7 @@ module _ (plan : Parts) (planned : IsPlanned plan) (old new : State) (n : ℕ) (
     | inl o ↦ inl o
     | inr w ↦ elim w [
       | inl e ↦ inr (subst (HasCause plan new) e (done.moves.grows (fact.Claim s l k) (cause_of plan planned (IsRecorded old.banks) (Edge r k s l) done.due)))
-      | inr b ↦ inr (elim b.1 [ inl e ↦ subst (HasCause plan new) e tt | inr begun ↦ begun_cause plan planned new r k there called f begun ])
+      | inr b ↦ inr (elim b.1 [ inl e ↦ subst (HasCause plan new) e tt | inr begun ↦ begun_cause plan planned new r k called f begun ])
     ]
   ]
 
@@ -104,7 +99,7 @@ module _ (plan : Parts) (planned : IsPlanned plan) (old new : State) (n : ℕ) (
   claim_new : (x : Owed) → IsOpened x → ¬ (IsKnown old x)
   claim_new x o known =
       let desc = claim_known plan planned old tidy.balanced o.first k k (subst (IsKnown old) (sym o.is) known) in
-      has_none log (fact.Called r k) o.fresh (done.moves.here (fact.Called r k) refl (tidy.first_descs o.first k k r desc (firsts_are plan planned r o.first there o.among)))
+      has_none log (fact.Called r k) o.fresh (done.moves.here (fact.Called r k) refl (tidy.first_descs o.first k k r desc (first_of plan planned r o.first o.among)))
 
   arrival_new : (e : ℕ) → ¬ (IsKnown old (behind e))
   arrival_new e known =

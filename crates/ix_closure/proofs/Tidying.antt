@@ -65,11 +65,8 @@ module _ (plan : Parts) (planned : IsPlanned plan) (state : State) (count : ℕ)
   caused : (f : Fact) → IsRecorded state.banks f → HasCause plan state f
   caused f h = elim (opened f h).0 [
     | inl e ↦ subst (HasCause plan state) e tt
-    | inr begun ↦ begun_cause plan planned state 0 0 first_there (opened f h).1 f begun
+    | inr begun ↦ begun_cause plan planned state 0 0 (opened f h).1 f begun
   ]
-    where
-      first_there : 0 < length plan.rules.flats
-      first_there = omega (arith, planned.first_named, planned.names_within)
 
   -- and no claim is recorded
   unclaimed : (s l p : ℕ) → ¬ (IsRecorded state.banks (fact.Claim s l p))
