@@ -24,11 +24,9 @@ pub mod NewCauses
 pub mod Once
 pub mod OnceEach
 pub mod Opening
-pub mod OpeningBalance
 pub mod Paid
 pub mod Progress
 pub mod Quiet
-pub mod QuietCore
 pub mod Ranges
 pub mod Readiness
 pub mod Recording
