@@ -66,7 +66,7 @@ module _ (plan : Parts) (planned : IsPlanned plan) (old new : State) (n : ℕ) (
   step_owed = nth_has old.owed n step done.taken
 
   -- what is recorded now was recorded before, or it is the step's own fact, or one beside it
-  pub newly : (f : Fact) → IsRecorded new.banks f → IsRecorded old.banks f ⊎ ((fact_of step ≡ f) ⊎ IsBeside plan log step f)
+  newly : (f : Fact) → IsRecorded new.banks f → IsRecorded old.banks f ⊎ ((fact_of step ≡ f) ⊎ IsBeside plan log step f)
   newly f h = newly_recorded plan (λ f. home_of plan (length old.banks) f ≡ home_for plan (length old.banks) step) (IsRecorded old.banks) (IsRecorded new.banks) log step done.moves f h
 
   -- beside its own fact a step records none that a due step other than an end is to record
@@ -101,10 +101,10 @@ module _ (plan : Parts) (planned : IsPlanned plan) (old new : State) (n : ℕ) (
     | inr w ↦ elim w [ inl e ↦ inr (sym (fact_of-same step x e)) | inr b ↦ absurd (beside_none step x single due b) ]
   ]
 
-  -- the state stays tidy where what is recorded now has its cause, each step that is brought is brought once and was not known,
-  -- and the ends that are brought have claims that give them
+  -- the state stays tidy where the step's own fact and those beside it have their causes, each step that is brought is brought
+  -- once and was not known, and the ends that are brought have claims that give them
   module _ (tidy : IsTidy plan old) (balanced : IsBalanced plan new)
-      (caused : (f : Fact) → IsRecorded new.banks f → IsRecorded old.banks f ⊎ HasCause plan new f)
+      (own : HasCause plan new (fact_of step)) (beside : (f : Fact) → IsBeside plan log step f → HasCause plan new f)
       (brought : (x : Owed) → IsSingle x → Contains more x → (times more x ≡ 1) × ¬ (IsKnown old x))
       (ends : (r k e : ℕ) → times more (End r k e) + givers plan (facts_of old.banks) r k e ≤ givers plan (facts_of new.banks) r k e) where
     times_new : (x : Owed) → times new.owed x ≡ times (remove old.owed n) x + times more x
@@ -142,7 +142,10 @@ module _ (plan : Parts) (planned : IsPlanned plan) (old new : State) (n : ℕ) (
     ends_new r k e = omega (arith, times_new (End r k e), count_remove (same_step (End r k e)) old.owed n step done.taken, tidy.owed_ends r k e, ends r k e)
 
     caused_new : (f : Fact) → IsRecorded new.banks f → HasCause plan new f
-    caused_new f h = elim (caused f h) [ inl o ↦ cause_grows plan old new done.moves.grows f (tidy_caused plan old tidy f o) | inr w ↦ w ]
+    caused_new f h = elim (newly f h) [
+      | inl o ↦ cause_grows plan old new done.moves.grows f (tidy_caused plan old tidy f o)
+      | inr w ↦ elim w [ inl e ↦ subst (HasCause plan new) e own | inr b ↦ beside f b ]
+    ]
 
     pub tidy_after : IsTidy plan new
     tidy_after = tidy_by plan new balanced caused_new once_new ends_new

@@ -16,7 +16,7 @@ use Rattle.ix_closure.specs.Follows.{claim_of}
 use Rattle.ix_closure.specs.Quantity.{times}
 use Rattle.ix_closure.specs.Seen.{State}
 use Rattle.ix_closure.specs.Tidy.{IsTidy}
-use Rattle.ix_closure.proofs.Done.{IsDone, newly, tidy_after, ends_kept}
+use Rattle.ix_closure.proofs.Done.{IsDone, tidy_after, ends_kept}
 use Rattle.ix_closure.proofs.DueCauses.{arrival_not_first}
 use Rattle.ix_closure.proofs.Known.{claim_known}
 use Rattle.ix_closure.proofs.Logs.{IsBeside, has_none}
@@ -30,19 +30,13 @@ module _ (plan : Parts) (planned : IsPlanned plan) (old new : State) (n : ℕ) (
   recorded : IsRecorded new.banks (fact.Part sub)
   recorded = done.moves.made (fact.Part sub) (put-keeps (put log (fact.Part sub)) (fact.Desc sub.slot sub.left sub.right) (fact.Part sub) (put-there log (fact.Part sub)))
 
-  -- what it records has its cause
-  caused : (f : Fact) → IsRecorded new.banks f → IsRecorded old.banks f ⊎ HasCause plan new f
+  -- its descriptor has it as its cause
+  beside : (f : Fact) → IsBeside plan log (Arrive sub) f → HasCause plan new f
   unfolding IsBeside
-  caused f h = elim (newly plan planned old new n log (Arrive sub) more done f h) [
-    | inl o ↦ inl o
-    | inr w ↦ elim w [
-      | inl e ↦ inr (subst (HasCause plan new) e (inr (due_grows plan (IsRecorded old.banks) (IsRecorded new.banks) done.moves.grows (Arrive sub) done.due)))
-      | inr b ↦ inr (subst (HasCause plan new) b.1 (
-        (λ r first. absurd (arrival_not_first plan planned (IsRecorded old.banks) sub done.due r first)),
-        (λ other. (sub.pivot, recorded)),
-      ))
-    ]
-  ]
+  beside f b = subst (HasCause plan new) b.1 (
+    (λ r first. absurd (arrival_not_first plan planned (IsRecorded old.banks) sub done.due r first)),
+    (λ other. (sub.pivot, recorded)),
+  )
 
   -- the claim of a new descriptor was not known
   claim_new : has log (fact.Desc sub.slot sub.left sub.right) ≡ false → ¬ (IsKnown old (Claim sub.slot sub.left sub.right))
@@ -69,4 +63,6 @@ module _ (plan : Parts) (planned : IsPlanned plan) (old new : State) (n : ℕ) (
       by false w = let same = one_has (Claim sub.slot sub.left sub.right) (End r k e) (subst (λ steps. Contains steps (End r k e)) w c) in cc
 
   pub arrive_tidy : IsBalanced plan new → IsTidy plan new
-  arrive_tidy balanced = tidy_after plan planned old new n log (Arrive sub) more done tidy balanced caused brought (ends_kept plan planned old new n log (Arrive sub) more done no_end)
+  arrive_tidy balanced =
+      tidy_after plan planned old new n log (Arrive sub) more done tidy balanced (inr (due_grows plan (IsRecorded old.banks) (IsRecorded new.banks) done.moves.grows (Arrive sub) done.due))
+      beside brought (ends_kept plan planned old new n log (Arrive sub) more done no_end)

@@ -22,7 +22,7 @@ use Rattle.ix_closure.specs.Follows.{sub_of, FollowsDesc, FollowsClaim, passes, 
 use Rattle.ix_closure.specs.Quantity.{same_step, times, givers, gives}
 use Rattle.ix_closure.specs.Seen.{State}
 use Rattle.ix_closure.specs.Tidy.{IsTidy}
-use Rattle.ix_closure.proofs.Done.{IsDone, newly, step_owed, tidy_after}
+use Rattle.ix_closure.proofs.Done.{IsDone, step_owed, tidy_after}
 use Rattle.ix_closure.proofs.DueCauses.{ArrivesBy, cause_of}
 use Rattle.ix_closure.proofs.Known.{edge_known, arrival_known}
 use Rattle.ix_closure.proofs.ListCounts.{count_append}
@@ -52,13 +52,10 @@ module _ (plan : Parts) (planned : IsPlanned plan) (old new : State) (n : ℕ) (
   recorded : log_after plan log (Claim s l p) ≡ log ++ fact.Claim s l p ∷ []
   recorded = ap (λ d. cond d (put log (fact.Claim s l p)) log) descriptor ∙ put-new log (fact.Claim s l p) no_claim
 
-  -- what it records has its cause
-  caused : (f : Fact) → IsRecorded new.banks f → IsRecorded old.banks f ⊎ HasCause plan new f
+  -- it records no other fact
+  beside : (f : Fact) → IsBeside plan log (Claim s l p) f → HasCause plan new f
   unfolding IsBeside
-  caused f h = elim (newly plan planned old new n log (Claim s l p) more done f h) [
-    | inl o ↦ inl o
-    | inr w ↦ elim w [ inl e ↦ inr (subst (HasCause plan new) e tt) | inr b ↦ absurd b ]
-  ]
+  beside f b = absurd b
 
   -- what the claim brings is owed once, and was not known
   brought : (steps : List Owed) → FollowsDesc plan s l p steps → (x : Owed) → IsSingle x → Contains steps x → (times steps x ≡ 1) × ¬ (IsKnown old x)
@@ -113,4 +110,4 @@ module _ (plan : Parts) (planned : IsPlanned plan) (old new : State) (n : ℕ) (
       )
 
   pub claim_tidy : IsBalanced plan new → IsTidy plan new
-  claim_tidy balanced = tidy_after plan planned old new n log (Claim s l p) more done tidy balanced caused (brought more follows) enough
+  claim_tidy balanced = tidy_after plan planned old new n log (Claim s l p) more done tidy balanced tt beside (brought more follows) enough

@@ -22,7 +22,7 @@ use Rattle.ix_closure.specs.Quantity.{times}
 use Rattle.ix_closure.specs.Seen.{State}
 use Rattle.ix_closure.specs.Tidy.{IsTidy}
 use Rattle.ix_closure.proofs.ClusterLists.{ends_once}
-use Rattle.ix_closure.proofs.Done.{IsDone, newly, step_owed, tidy_after, ends_kept}
+use Rattle.ix_closure.proofs.Done.{IsDone, step_owed, tidy_after, ends_kept}
 use Rattle.ix_closure.proofs.DueCauses.{cause_of, edge_next}
 use Rattle.ix_closure.proofs.FirstsOnce.{first_of, claims_once}
 use Rattle.ix_closure.proofs.Known.{claim_known, arrival_known}
@@ -49,15 +49,12 @@ module _ (plan : Parts) (planned : IsPlanned plan) (old new : State) (n : ℕ) (
       (put-keeps (after_call plan log r k) (fact.Edge r k s l) (fact.Called r k) (call-there plan log r k)))
 
   -- what it records has its cause
-  caused : (f : Fact) → IsRecorded new.banks f → IsRecorded old.banks f ⊎ HasCause plan new f
+  own : IsRecorded new.banks (fact.Claim s l k)
+  own = done.moves.grows (fact.Claim s l k) (cause_of plan planned (IsRecorded old.banks) (Edge r k s l) done.due)
+
+  beside : (f : Fact) → IsBeside plan log (Edge r k s l) f → HasCause plan new f
   unfolding IsBeside
-  caused f h = elim (newly plan planned old new n log (Edge r k s l) more done f h) [
-    | inl o ↦ inl o
-    | inr w ↦ elim w [
-      | inl e ↦ inr (subst (HasCause plan new) e (done.moves.grows (fact.Claim s l k) (cause_of plan planned (IsRecorded old.banks) (Edge r k s l) done.due)))
-      | inr b ↦ inr (elim b.1 [ inl e ↦ subst (HasCause plan new) e tt | inr begun ↦ begun_cause plan planned new r k called f begun ])
-    ]
-  ]
+  beside f b = elim b.1 [ inl e ↦ subst (HasCause plan new) e tt | inr begun ↦ begun_cause plan planned new r k called f begun ]
 
   -- the arrival of the edge's slot behind an end
   abbrev behind : ℕ → Owed
@@ -138,4 +135,4 @@ module _ (plan : Parts) (planned : IsPlanned plan) (old new : State) (n : ℕ) (
   ]
 
   pub edge_tidy : IsBalanced plan new → IsTidy plan new
-  edge_tidy balanced = tidy_after plan planned old new n log (Edge r k s l) more done tidy balanced caused brought (ends_kept plan planned old new n log (Edge r k s l) more done no_end)
+  edge_tidy balanced = tidy_after plan planned old new n log (Edge r k s l) more done tidy balanced own beside brought (ends_kept plan planned old new n log (Edge r k s l) more done no_end)

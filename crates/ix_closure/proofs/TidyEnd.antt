@@ -20,7 +20,7 @@ use Rattle.ix_closure.specs.Quantity.{times}
 use Rattle.ix_closure.specs.Seen.{State}
 use Rattle.ix_closure.specs.Tidy.{IsTidy}
 use Rattle.ix_closure.proofs.ClusterLists.{edges_from, edges_once}
-use Rattle.ix_closure.proofs.Done.{IsDone, newly, tidy_after, ends_kept}
+use Rattle.ix_closure.proofs.Done.{IsDone, tidy_after, ends_kept}
 use Rattle.ix_closure.proofs.DueCauses.{edge_next}
 use Rattle.ix_closure.proofs.Known.{arrival_known}
 use Rattle.ix_closure.proofs.Logs.{IsBeside, has_none}
@@ -40,13 +40,10 @@ same_arrival k e a b h =
 
 module _ (plan : Parts) (planned : IsPlanned plan) (old new : State) (n : ℕ) (log : List Fact) (r k e : ℕ) (more : List Owed)
     (done : IsDone plan old new n log (End r k e) more) (tidy : IsTidy plan old) where
-  -- what it records has its cause
-  caused : (f : Fact) → IsRecorded new.banks f → IsRecorded old.banks f ⊎ HasCause plan new f
+  -- it records no other fact
+  beside : (f : Fact) → IsBeside plan log (End r k e) f → HasCause plan new f
   unfolding IsBeside
-  caused f h = elim (newly plan planned old new n log (End r k e) more done f h) [
-    | inl o ↦ inl o
-    | inr w ↦ elim w [ inl q ↦ inr (subst (HasCause plan new) q tt) | inr b ↦ absurd b ]
-  ]
+  beside f b = absurd b
 
   -- what a new end meets did not arrive before
   arrival_new : has log (fact.End r k e) ≡ false → (a : Arc) → Contains (edges_in log (cluster r k)) a → ¬ (IsKnown old (arrival k e a))
@@ -77,4 +74,4 @@ module _ (plan : Parts) (planned : IsPlanned plan) (old new : State) (n : ℕ) (
       let same = a.2 in cc
 
   pub end_tidy : IsBalanced plan new → IsTidy plan new
-  end_tidy balanced = tidy_after plan planned old new n log (End r k e) more done tidy balanced caused brought (ends_kept plan planned old new n log (End r k e) more done no_end)
+  end_tidy balanced = tidy_after plan planned old new n log (End r k e) more done tidy balanced tt beside brought (ends_kept plan planned old new n log (End r k e) more done no_end)
