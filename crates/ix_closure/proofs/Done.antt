@@ -32,7 +32,7 @@ use Rattle.ix_closure.proofs.Members.{nth_has, left_was}
 use Rattle.ix_closure.proofs.Recording.{Moves}
 use Rattle.ix_closure.proofs.Stepping.{step_due, step_closed, event_moves}
 use Rattle.ix_closure.proofs.Tidied.{HasCause, IsSingle, IsKnown, tidy_by, tidy_caused, tidy_once, cause_grows}
-use Rattle.ix_closure.proofs.Times.{times-some, times-none, times-append, times-taken, times-left, fact_of-same}
+use Rattle.ix_closure.proofs.Times.{times_some, times_none, times_append, times_taken, times_left, fact_of_same}
 
 -- the n-th owed step was done on the bank with the log, and brought more
 pub record IsDone (plan : Parts) (old new : State) (n : ℕ) (log : List Fact) (step : Owed) (more : List Owed) : Type 0 where
@@ -98,7 +98,7 @@ module _ (plan : Parts) (planned : IsPlanned plan) (old new : State) (n : ℕ) (
   only_step : (x : Owed) → IsSingle x → FollowsIn plan new.banks x → IsRecorded new.banks (fact_of x) → IsRecorded old.banks (fact_of x) ⊎ (x ≡ step)
   only_step x single due h = elim (newly (fact_of x) h) [
     | inl o ↦ inl o
-    | inr w ↦ elim w [ inl e ↦ inr (sym (fact_of-same step x e)) | inr b ↦ absurd (beside_none step x single due b) ]
+    | inr w ↦ elim w [ inl e ↦ inr (sym (fact_of_same step x e)) | inr b ↦ absurd (beside_none step x single due b) ]
   ]
 
   -- the state stays tidy where the step's own fact and those beside it have their causes, each step that is brought is brought
@@ -108,13 +108,13 @@ module _ (plan : Parts) (planned : IsPlanned plan) (old new : State) (n : ℕ) (
       (brought : (x : Owed) → IsSingle x → Contains more x → (times more x ≡ 1) × ¬ (IsKnown old x))
       (ends : (r k e : ℕ) → times more (End r k e) + givers plan (facts_of old.banks) r k e ≤ givers plan (facts_of new.banks) r k e) where
     times_new : (x : Owed) → times new.owed x ≡ times (remove old.owed n) x + times more x
-    times_new x = ap (λ owed. times owed x) done.owed ∙ times-append (remove old.owed n) more x
+    times_new x = ap (λ owed. times owed x) done.owed ∙ times_append (remove old.owed n) more x
 
     -- the step that was done is not left, where it was owed once
     not_left : (x : Owed) → times old.owed x ≡ 1 → Contains (remove old.owed n) x → x ≡ step → ⊥
     not_left x once c e =
-        let taken = subst (λ y. times (remove old.owed n) y + 1 ≡ times old.owed y) (sym e) (times-taken old.owed n step done.taken) in
-        omega (arith, times-some (remove old.owed n) x c, taken, once)
+        let taken = subst (λ y. times (remove old.owed n) y + 1 ≡ times old.owed y) (sym e) (times_taken old.owed n step done.taken) in
+        omega (arith, times_some (remove old.owed n) x c, taken, once)
 
     -- a step that is left is owed as often as before
     left_once : (x : Owed) → IsSingle x → FollowsIn plan new.banks x → Contains (remove old.owed n) x → IsOwedOnce new x
@@ -122,14 +122,14 @@ module _ (plan : Parts) (planned : IsPlanned plan) (old new : State) (n : ℕ) (
         let was = left_was old.owed n x c in
         let once = tidy_once plan old tidy x single was in
         let other = not_left x once.0 c in
-        let none = times-none more x (λ m. (brought x single m).1 (inl was)) in
-        (omega (arith, times_new x, none, once.0, times-left old.owed n step x done.taken other), λ h. elim (only_step x single due h) [ inl o ↦ once.1 o | inr e ↦ other e ])
+        let none = times_none more x (λ m. (brought x single m).1 (inl was)) in
+        (omega (arith, times_new x, none, once.0, times_left old.owed n step x done.taken other), λ h. elim (only_step x single due h) [ inl o ↦ once.1 o | inr e ↦ other e ])
 
     -- and one that is brought once
     brought_once : (x : Owed) → IsSingle x → FollowsIn plan new.banks x → Contains more x → IsOwedOnce new x
     brought_once x single due c =
         let b = brought x single c in
-        let none = times-none (remove old.owed n) x (λ m. b.1 (inl (left_was old.owed n x m))) in
+        let none = times_none (remove old.owed n) x (λ m. b.1 (inl (left_was old.owed n x m))) in
         (omega (arith, times_new x, none, b.0), λ h. b.1 (elim (only_step x single due h) [ inl o ↦ inr o | inr e ↦ inl (subst (Contains old.owed) (sym e) step_owed) ]))
 
     once_new : (x : Owed) → IsSingle x → Contains new.owed x → IsOwedOnce new x
@@ -152,4 +152,4 @@ module _ (plan : Parts) (planned : IsPlanned plan) (old new : State) (n : ℕ) (
 
   -- where no end is brought, the ends that are owed have those that give them
   pub ends_kept : ((r k e : ℕ) → ¬ (Contains more (End r k e))) → (r k e : ℕ) → times more (End r k e) + givers plan (facts_of old.banks) r k e ≤ givers plan (facts_of new.banks) r k e
-  ends_kept none r k e = omega (arith, times-none more (End r k e) (none r k e), done.counted (gives plan r k e), count_after (gives plan r k e) plan log step)
+  ends_kept none r k e = omega (arith, times_none more (End r k e) (none r k e), done.counted (gives plan r k e), count_after (gives plan r k e) plan log step)

@@ -24,7 +24,7 @@ use Rattle.ix_closure.specs.Tidy.{IsTidy, IsOwedOnce}
 use Rattle.ix_closure.proofs.FirstsOnce.{claims_once}
 use Rattle.ix_closure.proofs.Members.{map_has, map_from, flat_has, flat_from}
 use Rattle.ix_closure.proofs.Tidied.{HasCause, IsSingle, tidy_by, begun_cause}
-use Rattle.ix_closure.proofs.Times.{times-none, times-once}
+use Rattle.ix_closure.proofs.Times.{times_none, times_once}
 
 module _ (plan : Parts) (state : State) (count : ℕ) (banks : state.banks ≡ opening plan count) where
   -- what is recorded at the start is the first call, or its alternatives began with it
@@ -102,12 +102,12 @@ module _ (plan : Parts) (planned : IsPlanned plan) (state : State) (count : ℕ)
 
   once : (x : Owed) → IsSingle x → Contains state.owed x → IsOwedOnce state x
   once x single c = (
-    ap (λ steps. times steps x) owed ∙ times-once (claims_at 0 (firsts_of plan 0)) x (claims_once plan planned 0 0) (subst (λ steps. Contains steps x) owed c),
+    ap (λ steps. times steps x) owed ∙ times_once (claims_at 0 (firsts_of plan 0)) x (claims_once plan planned 0 0) (subst (λ steps. Contains steps x) owed c),
     (let claim = claim_of x c in λ h. no_claim plan state count banks claim.0 0 0 (subst (λ y. IsRecorded state.banks (fact_of y)) (sym claim.2) h)),
   )
 
   no_end : (r k e : ℕ) → times state.owed (End r k e) ≤ givers plan (facts_of state.banks) r k e
-  no_end r k e = omega (arith, times-none state.owed (End r k e) (λ c. let claim = claim_of (End r k e) c in let same = claim.2 in cc))
+  no_end r k e = omega (arith, times_none state.owed (End r k e) (λ c. let claim = claim_of (End r k e) c in let same = claim.2 in cc))
 
   pub opening_tidy : IsBalanced plan state → IsTidy plan state
   opening_tidy balanced = tidy_by plan state balanced caused once no_end

@@ -22,7 +22,7 @@ use Rattle.ix_closure.proofs.Known.{claim_known}
 use Rattle.ix_closure.proofs.Logs.{IsBeside, has_none}
 use Rattle.ix_closure.proofs.NewCauses.{due_grows}
 use Rattle.ix_closure.proofs.Tidied.{HasCause, IsSingle, IsKnown}
-use Rattle.ix_closure.proofs.Times.{times-one}
+use Rattle.ix_closure.proofs.Times.{times_one}
 
 module _ (plan : Parts) (planned : IsPlanned plan) (old new : State) (n : ℕ) (log : List Fact) (sub : Sub) (more : List Owed)
     (done : IsDone plan old new n log (Arrive sub) more) (tidy : IsTidy plan old) where
@@ -50,7 +50,7 @@ module _ (plan : Parts) (planned : IsPlanned plan) (old new : State) (n : ℕ) (
       by true e w = absurd (none_has x (subst (λ steps. Contains steps x) w c))
       by false e w =
           let one = subst (λ steps. Contains steps x) w c in (
-            ap (λ steps. times steps x) w ∙ times-one (Claim sub.slot sub.left sub.right) x one,
+            ap (λ steps. times steps x) w ∙ times_one (Claim sub.slot sub.left sub.right) x one,
             λ known. claim_new e (subst (IsKnown old) (sym (one_has (Claim sub.slot sub.left sub.right) x one)) known),
           )
 

@@ -28,7 +28,7 @@ use Rattle.ix_closure.proofs.Known.{edge_known, arrival_known}
 use Rattle.ix_closure.proofs.ListCounts.{count_append}
 use Rattle.ix_closure.proofs.Logs.{IsBeside, has_not}
 use Rattle.ix_closure.proofs.Tidied.{HasCause, IsSingle, IsKnown}
-use Rattle.ix_closure.proofs.Times.{times-one, same_step-refl, same_step-true}
+use Rattle.ix_closure.proofs.Times.{times_one, same_step_refl, same_step_true}
 
 module _ (plan : Parts) (planned : IsPlanned plan) (old new : State) (n : ℕ) (log : List Fact) (s l p : ℕ) (more : List Owed)
     (done : IsDone plan old new n log (Claim s l p) more) (tidy : IsTidy plan old) where
@@ -60,16 +60,16 @@ module _ (plan : Parts) (planned : IsPlanned plan) (old new : State) (n : ℕ) (
   -- what the claim brings is owed once, and was not known
   brought : (steps : List Owed) → FollowsDesc plan s l p steps → (x : Owed) → IsSingle x → Contains steps x → (times steps x ≡ 1) × ¬ (IsKnown old x)
   brought steps (passes x after e next t) o single c = (
-    times-one (Arrive (sub_of after l p e)) o c,
+    times_one (Arrive (sub_of after l p e)) o c,
     λ known. unclaimed (subst (ArrivesBy plan planned (IsRecorded old.banks) s l p e) t.3 (arrival_known plan planned old tidy (sub_of after l p e) (subst (IsKnown old) (sym (one_has (Arrive (sub_of after l p e)) o c)) known) s x next)),
   )
   brought steps (stops t shown after next none) o single c = absurd (none_has o c)
   brought steps (inserts m after next) o single c = (
-    times-one (Arrive (sub_of after l p p)) o c,
+    times_one (Arrive (sub_of after l p p)) o c,
     λ known. unclaimed (arrival_known plan planned old tidy (sub_of after l p p) (subst (IsKnown old) (sym (one_has (Arrive (sub_of after l p p)) o c)) known) s (sy.Insert m) next),
   )
   brought steps (calls r after mark next) o single c = (
-    times-one (Edge r p s l) o c,
+    times_one (Edge r p s l) o c,
     λ known. unclaimed (edge_known plan planned old tidy r p s l (subst (IsKnown old) (sym (one_has (Edge r p s l) o c)) known)),
   )
   brought steps (ends r last) o single c = absurd (subst IsSingle (sym (one_has (End r l p) o c)) single)
@@ -94,8 +94,8 @@ module _ (plan : Parts) (planned : IsPlanned plan) (old new : State) (n : ℕ) (
 
       by : (same_step (End r k e) (End r' l p) ≡ true) ⊎ (same_step (End r k e) (End r' l p) ≡ false) → times (End r' l p ∷ []) (End r k e) ≤ cond (gives plan r k e (fact.Claim s l p)) 1 0
       by (inl t) =
-          subst (λ o. times (End r' l p ∷ []) o ≤ cond (gives_end o) 1 0) (sym (same_step-true (End r k e) (End r' l p) t))
-          (omega (arith, ap {B = ℕ} (λ b. cond b 1 0) own, ap {B = ℕ} (λ b. cond b 1 0) (same_step-refl (End r' l p))))
+          subst (λ o. times (End r' l p ∷ []) o ≤ cond (gives_end o) 1 0) (sym (same_step_true (End r k e) (End r' l p) t))
+          (omega (arith, ap {B = ℕ} (λ b. cond b 1 0) own, ap {B = ℕ} (λ b. cond b 1 0) (same_step_refl (End r' l p))))
       by (inr f) = omega (arith, ap {B = ℕ} (λ b. cond b 1 0) f)
 
   -- so each end that is owed has claims enough that give it

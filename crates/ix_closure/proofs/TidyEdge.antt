@@ -30,7 +30,7 @@ use Rattle.ix_closure.proofs.Logs.{IsBeside, has_none, has_not}
 use Rattle.ix_closure.proofs.Members.{map_from}
 use Rattle.ix_closure.proofs.OnceEach.{once_map}
 use Rattle.ix_closure.proofs.Tidied.{HasCause, IsSingle, IsKnown, begun_cause}
-use Rattle.ix_closure.proofs.Times.{times-append, times-none, times-once}
+use Rattle.ix_closure.proofs.Times.{times_append, times_none, times_once}
 
 module _ (plan : Parts) (planned : IsPlanned plan) (old new : State) (n : ℕ) (log : List Fact) (r k s l : ℕ) (more : List Owed)
     (done : IsDone plan old new n log (Edge r k s l) more) (tidy : IsTidy plan old) where
@@ -89,7 +89,7 @@ module _ (plan : Parts) (planned : IsPlanned plan) (old new : State) (n : ℕ) (
         first = p.0;
         among = p.1;
         is = p.2;
-        once = ap (λ b. times (cond (not b) (claims_at k (firsts_of plan r)) []) x) e ∙ times-once (claims_at k (firsts_of plan r)) x (claims_once plan planned r k) h;
+        once = ap (λ b. times (cond (not b) (claims_at k (firsts_of plan r)) []) x) e ∙ times_once (claims_at k (firsts_of plan r)) x (claims_once plan planned r k) h;
       }
 
   -- what it brings was not known
@@ -115,16 +115,16 @@ module _ (plan : Parts) (planned : IsPlanned plan) (old new : State) (n : ℕ) (
   same_end a b h = let same : sub_of (s + 1) l k a ≡ sub_of (s + 1) l k b = cc in ap (λ (u : Sub). u.right) same
 
   times_more : (x : Owed) → times more x ≡ times claims x + times met x
-  times_more x = ap (λ steps. times steps x) brings ∙ times-append claims met x
+  times_more x = ap (λ steps. times steps x) brings ∙ times_append claims met x
 
   -- what it brings is owed once, and was not known
   brought : (x : Owed) → IsSingle x → Contains more x → (times more x ≡ 1) × ¬ (IsKnown old x)
   brought x single c = elim (Contains-append_cases claims met x (subst (λ steps. Contains steps x) brings c)) [
-    | inl h ↦ (omega (arith, times_more x, (opened_from x h).once, times-none met x (not_both x h)), claim_new x (opened_from x h))
+    | inl h ↦ (omega (arith, times_more x, (opened_from x h).once, times_none met x (not_both x h)), claim_new x (opened_from x h))
     | inr h ↦
         let e = map_from behind (ends_in log (cluster r k)) x h in
-        let once = times-once met x (once_map behind (ends_in log (cluster r k)) (λ a b i j. same_end a b) (ends_once (cluster r k) log done.once)) h in
-        (omega (arith, times_more x, once, times-none claims x (λ i. not_both x i h)), λ known. arrival_new e.0 (subst (IsKnown old) (sym e.2) known))
+        let once = times_once met x (once_map behind (ends_in log (cluster r k)) (λ a b i j. same_end a b) (ends_once (cluster r k) log done.once)) h in
+        (omega (arith, times_more x, once, times_none claims x (λ i. not_both x i h)), λ known. arrival_new e.0 (subst (IsKnown old) (sym e.2) known))
   ]
 
   -- it brings no end

@@ -28,7 +28,7 @@ use Rattle.ix_closure.proofs.Members.{map_from}
 use Rattle.ix_closure.proofs.OnceEach.{once_map}
 use Rattle.ix_closure.proofs.Recording.{recorded_closed}
 use Rattle.ix_closure.proofs.Tidied.{HasCause, IsSingle, IsKnown}
-use Rattle.ix_closure.proofs.Times.{times-once}
+use Rattle.ix_closure.proofs.Times.{times_once}
 
 -- edges with one arrival are the same
 same_arrival : (k e : ℕ) (a b : Arc) → arrival k e a ≡ arrival k e b → a ≡ b
@@ -62,7 +62,7 @@ module _ (plan : Parts) (planned : IsPlanned plan) (old new : State) (n : ℕ) (
           let there = subst (λ steps. Contains steps x) w c in
           let a = map_from (arrival k e) (edges_in log (cluster r k)) x there in (
             ap (λ steps. times steps x) w ∙
-                times-once (map (arrival k e) (edges_in log (cluster r k))) x
+                times_once (map (arrival k e) (edges_in log (cluster r k))) x
                 (once_map (arrival k e) (edges_in log (cluster r k)) (λ a b h i. same_arrival k e a b) (edges_once (cluster r k) log done.once)) there,
             λ known. arrival_new q a.0 a.1 (subst (IsKnown old) (sym a.2) known),
           )

@@ -29,7 +29,7 @@ use Rattle.ix_closure.proofs.TidyArrive.{arrive_tidy}
 use Rattle.ix_closure.proofs.TidyClaim.{claim_tidy}
 use Rattle.ix_closure.proofs.TidyEdge.{edge_tidy}
 use Rattle.ix_closure.proofs.TidyEnd.{end_tidy}
-use Rattle.ix_closure.proofs.Times.{times-none, times-once}
+use Rattle.ix_closure.proofs.Times.{times_none, times_once}
 
 -- by the kind of its step
 step_tidy : (plan : Parts) → IsPlanned plan → (old new : State) (n : ℕ) (log : List Fact) (step : Owed) (more : List Owed) → IsDone plan old new n log step more → IsTidy plan old → IsBalanced plan new → IsTidy plan new
