@@ -10,7 +10,7 @@ use Rattle.ix_cluster.specs.Lists.{cluster, same_cluster}
 use Rattle.ix_cluster.specs.Steps.{edge_of, end_of, edges_in, ends_in}
 use Rattle.ix_cluster.proofs.FactLemmas.{same_fact-refl}
 use Rattle.ix_cluster.proofs.ListLemmas.{same_cluster-true}
-use Rattle.ix_closure.proofs.Members.{filter_has, filter_from}
+use Rattle.ix_closure.proofs.ListMembers.{filter_has, filter_from}
 use Rattle.ix_closure.proofs.OnceEach.{IsOnceEach, once_distinct, once_filter}
 
 module _ (c : Cluster) where

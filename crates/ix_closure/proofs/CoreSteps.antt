@@ -15,12 +15,12 @@ use Rattle.ix_closure.specs.Events.{Event, bank_after, home_for}
 use Rattle.ix_closure.specs.Follows.{fact_of}
 use Rattle.ix_closure.specs.Ready.{HasSlot, IsReady, IsReplaced}
 use Rattle.ix_closure.specs.Seen.{State}
-use Rattle.ix_closure.proofs.Balancing.{event_balanced}
-use Rattle.ix_closure.proofs.Causes.{due_closed}
-use Rattle.ix_closure.proofs.Members.{nth_has}
+use Rattle.ix_closure.proofs.EventBalance.{event_balanced}
+use Rattle.ix_closure.proofs.DueClosed.{due_closed}
+use Rattle.ix_closure.proofs.ListMembers.{nth_has}
 use Rattle.ix_closure.proofs.Readiness.{step_slot, step_ready}
-use Rattle.ix_closure.proofs.Recording.{recorded_closed, recorded_by}
-use Rattle.ix_closure.proofs.Sets.{set_same}
+use Rattle.ix_closure.proofs.RecordedFacts.{recorded_closed, recorded_by}
+use Rattle.ix_closure.proofs.ListUpdates.{set_same}
 
 -- the n-th owed step is this one
 module _ (plan : Parts) (planned : IsPlanned plan) (old : State) (balanced : IsBalanced plan old) (n : ℕ) (step : Owed) (within : n < length old.owed) (at : step ≡ get_or old.owed n step) where

@@ -26,10 +26,10 @@ use Rattle.ix_closure.specs.Quantity.{step_bound}
 use Rattle.ix_closure.specs.Runs.{Run, rests, goes_on}
 use Rattle.ix_closure.specs.Seen.{State}
 use Rattle.ix_closure.specs.Tidy.{IsTidy}
-use Rattle.ix_closure.proofs.FirstsOnce.{first_of, firsts_once}
-use Rattle.ix_closure.proofs.InClosure.{weight_sound}
-use Rattle.ix_closure.proofs.Paid.{IsFresh, descriptor_call, step_paid}
-use Rattle.ix_closure.proofs.Recording.{recorded_by, recorded_home}
+use Rattle.ix_closure.proofs.FirstSlots.{first_of, firsts_once}
+use Rattle.ix_closure.proofs.ClosureWeights.{weight_sound}
+use Rattle.ix_closure.proofs.StepWeights.{IsFresh, descriptor_call, step_paid}
+use Rattle.ix_closure.proofs.RecordedFacts.{recorded_by, recorded_home}
 use Rattle.ix_closure.proofs.Weights.{weight_in, weight_set}
 
 module _ (plan : Parts) (planned : IsPlanned plan) where

@@ -15,7 +15,7 @@ use Rattle.ix_cluster.specs.Banks.{is_descriptor}
 use Rattle.ix_cluster.specs.ClosedFacts.{IsInClosed}
 use Rattle.ix_cluster.specs.Facts.{same_fact}
 use Rattle.ix_closure.proofs.LogCounts.{tallied}
-use Rattle.ix_closure.proofs.Members.{map_has, flat_has}
+use Rattle.ix_closure.proofs.ListMembers.{map_has, flat_has}
 use Rattle.ix_closure.proofs.Ranges.{range_has}
 use Rattle.ix_closure.proofs.Sublists.{fewer}
 

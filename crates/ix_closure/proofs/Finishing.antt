@@ -8,7 +8,7 @@ use Rattle.ix_closure.specs.Events.{Event}
 use Rattle.ix_closure.specs.Runs.{IsReached, goes_on}
 use Rattle.ix_closure.specs.Seen.{State}
 use Rattle.ix_closure.proofs.Progress.{event_shrinks, falls, few_facts}
-use Rattle.ix_closure.proofs.Stepping.{event_sound}
+use Rattle.ix_closure.proofs.EventBanks.{event_sound}
 
 pub from_on_ok : {T E P : Type 0} (r : Result T E) → is_err r ≡ false → OnOk r P → P
 from_on_ok (Ok x) e p = p

@@ -4,7 +4,7 @@ use Rattle.std.specs.List.{IsDistinct, filter_map, cons_option}
 use Rattle.std.proofs.lemmas.List.Elements.{All-from_recursion, All-contains}
 use Rattle.std.proofs.lemmas.Map.Keys.{IsDistinct-head, IsDistinct-tail}
 use Rattle.ix_cluster.proofs.Members.{either_has, none_has, rest_has, first_has}
-use Rattle.ix_closure.proofs.Members.{map_from, filter_from}
+use Rattle.ix_closure.proofs.ListMembers.{map_from, filter_from}
 
 module _ {X : Type 0} where
   -- no element stands there twice

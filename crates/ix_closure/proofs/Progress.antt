@@ -27,7 +27,7 @@ use Rattle.ix_closure.specs.Follows.{arrival, claims_at, claim_of, FollowsClaim,
 use Rattle.ix_closure.specs.Seen.{State}
 use Rattle.ix_closure.proofs.ListCounts.{count_all}
 use Rattle.ix_closure.proofs.LogCounts.{count_put, count_put_new, count_call, count_after, count_set}
-use Rattle.ix_closure.proofs.Members.{all_have, place_in}
+use Rattle.ix_closure.proofs.ListMembers.{all_have, place_in}
 
 put_longer : (log : List Fact) (f : Fact) → length log ≤ length (put log f)
 put_longer log f = omega (arith, count_all log, count_all (put log f), count_put (λ _. true) log f)

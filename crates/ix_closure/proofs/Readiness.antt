@@ -23,11 +23,11 @@ use Rattle.ix_closure.specs.Due.{IsRecorded}
 use Rattle.ix_closure.specs.Follows.{fact_of}
 use Rattle.ix_closure.specs.Ready.{HasFurther, HasSlot, IsReady}
 use Rattle.ix_closure.specs.Seen.{State}
-use Rattle.ix_closure.proofs.Causes.{due_closed}
+use Rattle.ix_closure.proofs.DueClosed.{due_closed}
 use Rattle.ix_closure.proofs.ClusterLists.{edges_from}
 use Rattle.ix_closure.proofs.DueCauses.{edge_next}
-use Rattle.ix_closure.proofs.Members.{all_have}
-use Rattle.ix_closure.proofs.Recording.{recorded_closed, recorded_by}
+use Rattle.ix_closure.proofs.ListMembers.{all_have}
+use Rattle.ix_closure.proofs.RecordedFacts.{recorded_closed, recorded_by}
 
 module _ (plan : Parts) (planned : IsPlanned plan) where
   edge_further : (r k s l : ℕ) → closed.Edge plan r k s l → HasFurther plan s

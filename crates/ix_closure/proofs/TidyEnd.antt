@@ -20,15 +20,15 @@ use Rattle.ix_closure.specs.Quantity.{times}
 use Rattle.ix_closure.specs.Seen.{State}
 use Rattle.ix_closure.specs.Tidy.{IsTidy}
 use Rattle.ix_closure.proofs.ClusterLists.{edges_from, edges_once}
-use Rattle.ix_closure.proofs.Done.{IsDone, tidy_after, ends_kept}
+use Rattle.ix_closure.proofs.TidyStep.{IsDone, tidy_after, ends_kept}
 use Rattle.ix_closure.proofs.DueCauses.{edge_next}
-use Rattle.ix_closure.proofs.Known.{arrival_known}
-use Rattle.ix_closure.proofs.Logs.{IsBeside, has_none}
-use Rattle.ix_closure.proofs.Members.{map_from}
+use Rattle.ix_closure.proofs.TidyKnown.{arrival_known}
+use Rattle.ix_closure.proofs.StepLogs.{IsBeside, has_none}
+use Rattle.ix_closure.proofs.ListMembers.{map_from}
 use Rattle.ix_closure.proofs.OnceEach.{once_map}
-use Rattle.ix_closure.proofs.Recording.{recorded_closed}
-use Rattle.ix_closure.proofs.Tidied.{HasCause, IsSingle, IsKnown}
-use Rattle.ix_closure.proofs.Times.{times_once}
+use Rattle.ix_closure.proofs.RecordedFacts.{recorded_closed}
+use Rattle.ix_closure.proofs.TidyCauses.{HasCause, IsSingle, IsKnown}
+use Rattle.ix_closure.proofs.OwedTimes.{times_once}
 
 -- edges with one arrival are the same
 same_arrival : (k e : ℕ) (a b : Arc) → arrival k e a ≡ arrival k e b → a ≡ b

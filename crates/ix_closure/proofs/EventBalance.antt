@@ -13,11 +13,11 @@ use Rattle.ix_closure.specs.Due.{IsDue, IsRecorded, FollowsIn, IsMissing}
 use Rattle.ix_closure.specs.Events.{Event, log_after, home_for}
 use Rattle.ix_closure.specs.Follows.{fact_of, Follows}
 use Rattle.ix_closure.specs.Seen.{State}
-use Rattle.ix_closure.proofs.Bringing.{Brings, claim_brings, end_brings, arrival_brings, edge_brings}
-use Rattle.ix_closure.proofs.Members.{left_was, taken_or_left}
-use Rattle.ix_closure.proofs.NewCauses.{due_grows}
-use Rattle.ix_closure.proofs.Recording.{Moves, recorded_closed}
-use Rattle.ix_closure.proofs.Stepping.{step_due, step_closed, event_sound, event_moves}
+use Rattle.ix_closure.proofs.BroughtSteps.{Brings, claim_brings, end_brings, arrival_brings, edge_brings}
+use Rattle.ix_closure.proofs.ListMembers.{left_was, taken_or_left}
+use Rattle.ix_closure.proofs.NewlyDue.{due_grows}
+use Rattle.ix_closure.proofs.RecordedFacts.{Moves, recorded_closed}
+use Rattle.ix_closure.proofs.EventBanks.{step_due, step_closed, event_sound, event_moves}
 
 -- each kind of step brings what becomes due by it
 pub step_brings : (plan : Parts) → IsPlanned plan → (count : ℕ) (Before After : Fact → Type 0) (log : List Fact) → ((f : Fact) → Before f → IsInClosed plan f) → (o : Owed) (more : List Owed) → IsDue plan Before o → IsInClosed plan (fact_of o)

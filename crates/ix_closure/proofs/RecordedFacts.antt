@@ -9,8 +9,8 @@ use Rattle.ix_cluster.specs.Homes.{home_of}
 use Rattle.ix_cluster.specs.Seen.{Bank}
 use Rattle.ix_cluster.specs.Sound.{IsSound, AreSound}
 use Rattle.ix_closure.specs.Due.{IsRecorded}
-use Rattle.ix_closure.proofs.Members.{nth_has, place_in, flat_has, flat_from}
-use Rattle.ix_closure.proofs.Sets.{set_there, set_other, set_from}
+use Rattle.ix_closure.proofs.ListMembers.{nth_has, place_in, flat_has, flat_from}
+use Rattle.ix_closure.proofs.ListUpdates.{set_there, set_other, set_from}
 
 -- a bank went from one log to another; the facts of which it is the home are Mine, and Before and After hold of what all
 -- banks have recorded before and after

@@ -27,11 +27,11 @@ use Rattle.ix_closure.specs.Events.{log_after}
 use Rattle.ix_closure.specs.Follows.{fact_of, sub_of, arrival, claims_at, claim_of, FollowsDesc, FollowsClaim, Follows}
 use Rattle.ix_closure.proofs.ClusterLists.{edges_have, ends_have, edges_from, ends_from}
 use Rattle.ix_closure.proofs.DueCauses.{cause_of, edge_next}
-use Rattle.ix_closure.proofs.Following.{follows_same, follows_due}
-use Rattle.ix_closure.proofs.Logs.{IsBeside, newly_recorded}
-use Rattle.ix_closure.proofs.Members.{map_has, map_from}
-use Rattle.ix_closure.proofs.NewCauses.{IsNewlyDue, by_desc, by_claim, by_edge, by_end, due_grows, due_split}
-use Rattle.ix_closure.proofs.Recording.{Moves}
+use Rattle.ix_closure.proofs.DescriptorSteps.{follows_same, follows_due}
+use Rattle.ix_closure.proofs.StepLogs.{IsBeside, newly_recorded}
+use Rattle.ix_closure.proofs.ListMembers.{map_has, map_from}
+use Rattle.ix_closure.proofs.NewlyDue.{IsNewlyDue, by_desc, by_claim, by_edge, by_end, due_grows, due_split}
+use Rattle.ix_closure.proofs.RecordedFacts.{Moves}
 
 -- the step has recorded its fact, and what is due behind it was due before or is among the further steps
 pub record Brings (plan : Parts) (Before After : Fact → Type 0) (o : Owed) (more : List Owed) : Type 0 where

@@ -18,8 +18,8 @@ use Rattle.ix_closure.specs.Follows.{fact_of, sub_of}
 use Rattle.ix_closure.specs.Quantity.{times, givers}
 use Rattle.ix_closure.specs.Seen.{State}
 use Rattle.ix_closure.specs.Tidy.{IsTidy, IsEmptyOfCalled, IsOwedOnce}
-use Rattle.ix_closure.proofs.FirstsOnce.{first_of}
-use Rattle.ix_closure.proofs.NewCauses.{due_grows}
+use Rattle.ix_closure.proofs.FirstSlots.{first_of}
+use Rattle.ix_closure.proofs.NewlyDue.{due_grows}
 
 -- what must be recorded for the fact to be recorded
 abbrev pub HasCause : Parts → State → Fact → Type 0

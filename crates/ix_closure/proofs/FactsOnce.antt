@@ -13,9 +13,9 @@ use Rattle.ix_cluster.specs.Seen.{Bank}
 use Rattle.ix_cluster.specs.Sound.{AreSound}
 use Rattle.ix_cluster.proofs.FactLemmas.{same_fact-true}
 use Rattle.ix_cluster.proofs.Members.{first_has, rest_has}
-use Rattle.ix_closure.proofs.Members.{all_have}
+use Rattle.ix_closure.proofs.ListMembers.{all_have}
 use Rattle.ix_closure.proofs.OnceEach.{distinct_apart}
-use Rattle.ix_closure.proofs.Recording.{recorded_in}
+use Rattle.ix_closure.proofs.RecordedFacts.{recorded_in}
 
 -- two lists that share no fact
 distinct_append : (xs ys : List Fact) → IsDistinct same_fact xs → IsDistinct same_fact ys → ((f : Fact) → Contains xs f → Contains ys f → ⊥) → IsDistinct same_fact (xs ++ ys)

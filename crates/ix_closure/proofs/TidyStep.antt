@@ -24,15 +24,15 @@ use Rattle.ix_closure.specs.Quantity.{same_step, times, givers, gives}
 use Rattle.ix_closure.specs.Seen.{State}
 use Rattle.ix_closure.specs.Tidy.{IsTidy, IsOwedOnce}
 use Rattle.ix_closure.proofs.DueCauses.{arrival_not_first}
-use Rattle.ix_closure.proofs.FirstsOnce.{first_of}
+use Rattle.ix_closure.proofs.FirstSlots.{first_of}
 use Rattle.ix_closure.proofs.ListCounts.{count_remove}
 use Rattle.ix_closure.proofs.LogCounts.{count_set, count_after}
-use Rattle.ix_closure.proofs.Logs.{IsBeside, newly_recorded}
-use Rattle.ix_closure.proofs.Members.{nth_has, left_was}
-use Rattle.ix_closure.proofs.Recording.{Moves}
-use Rattle.ix_closure.proofs.Stepping.{step_due, step_closed, event_moves}
-use Rattle.ix_closure.proofs.Tidied.{HasCause, IsSingle, IsKnown, tidy_by, tidy_caused, tidy_once, cause_grows}
-use Rattle.ix_closure.proofs.Times.{times_some, times_none, times_append, times_taken, times_left, fact_of_same}
+use Rattle.ix_closure.proofs.StepLogs.{IsBeside, newly_recorded}
+use Rattle.ix_closure.proofs.ListMembers.{nth_has, left_was}
+use Rattle.ix_closure.proofs.RecordedFacts.{Moves}
+use Rattle.ix_closure.proofs.EventBanks.{step_due, step_closed, event_moves}
+use Rattle.ix_closure.proofs.TidyCauses.{HasCause, IsSingle, IsKnown, tidy_by, tidy_caused, tidy_once, cause_grows}
+use Rattle.ix_closure.proofs.OwedTimes.{times_some, times_none, times_append, times_taken, times_left, fact_of_same}
 
 -- the n-th owed step was done on the bank with the log, and brought more
 pub record IsDone (plan : Parts) (old new : State) (n : ℕ) (log : List Fact) (step : Owed) (more : List Owed) : Type 0 where

@@ -19,11 +19,11 @@ use Rattle.ix_closure.specs.Due.{IsRecorded, FollowsIn}
 use Rattle.ix_closure.specs.Events.{Event, log_after, bank_after, home_for}
 use Rattle.ix_closure.specs.Follows.{fact_of}
 use Rattle.ix_closure.specs.Seen.{State}
-use Rattle.ix_closure.proofs.BankSteps.{bank_sound}
-use Rattle.ix_closure.proofs.Causes.{due_closed}
-use Rattle.ix_closure.proofs.Logs.{log_keeps}
-use Rattle.ix_closure.proofs.Members.{nth_has}
-use Rattle.ix_closure.proofs.Recording.{Moves, recorded_closed, set_sound, moves}
+use Rattle.ix_closure.proofs.BankSound.{bank_sound}
+use Rattle.ix_closure.proofs.DueClosed.{due_closed}
+use Rattle.ix_closure.proofs.StepLogs.{log_keeps}
+use Rattle.ix_closure.proofs.ListMembers.{nth_has}
+use Rattle.ix_closure.proofs.RecordedFacts.{Moves, recorded_closed, set_sound, moves}
 
 module _ (plan : Parts) (planned : IsPlanned plan) (old new : State) (n : ℕ) (balanced : IsBalanced plan old) (event : Event plan old n new) where
   -- the step is due, and what it is to record is in the closure

@@ -16,13 +16,13 @@ use Rattle.ix_closure.specs.Follows.{claim_of}
 use Rattle.ix_closure.specs.Quantity.{times}
 use Rattle.ix_closure.specs.Seen.{State}
 use Rattle.ix_closure.specs.Tidy.{IsTidy}
-use Rattle.ix_closure.proofs.Done.{IsDone, tidy_after, ends_kept}
+use Rattle.ix_closure.proofs.TidyStep.{IsDone, tidy_after, ends_kept}
 use Rattle.ix_closure.proofs.DueCauses.{arrival_not_first}
-use Rattle.ix_closure.proofs.Known.{claim_known}
-use Rattle.ix_closure.proofs.Logs.{IsBeside, has_none}
-use Rattle.ix_closure.proofs.NewCauses.{due_grows}
-use Rattle.ix_closure.proofs.Tidied.{HasCause, IsSingle, IsKnown}
-use Rattle.ix_closure.proofs.Times.{times_one}
+use Rattle.ix_closure.proofs.TidyKnown.{claim_known}
+use Rattle.ix_closure.proofs.StepLogs.{IsBeside, has_none}
+use Rattle.ix_closure.proofs.NewlyDue.{due_grows}
+use Rattle.ix_closure.proofs.TidyCauses.{HasCause, IsSingle, IsKnown}
+use Rattle.ix_closure.proofs.OwedTimes.{times_one}
 
 module _ (plan : Parts) (planned : IsPlanned plan) (old new : State) (n : ℕ) (log : List Fact) (sub : Sub) (more : List Owed)
     (done : IsDone plan old new n log (Arrive sub) more) (tidy : IsTidy plan old) where

@@ -22,8 +22,8 @@ use Rattle.ix_closure.specs.declared.owed.Owed.{Owed}
 use Rattle.ix_closure.specs.declared.owed.Owed.TheVariants.{Claim, Edge, End, Arrive}
 use Rattle.ix_closure.specs.Events.{log_after}
 use Rattle.ix_closure.specs.Follows.{Follows, FollowsClaim, arrival, claims_at, opened, met_ends, met_edges, claim_of}
-use Rattle.ix_closure.proofs.FirstsOnce.{firsts_once}
-use Rattle.ix_closure.proofs.Following.{follows_few}
+use Rattle.ix_closure.proofs.FirstSlots.{firsts_once}
+use Rattle.ix_closure.proofs.DescriptorSteps.{follows_few}
 use Rattle.ix_closure.proofs.LogCounts.{count_put, count_put_new, count_call}
 use Rattle.ix_closure.proofs.OnceEach.{IsOnceEach}
 use Rattle.ix_closure.proofs.Weights.{is_claim, weight}

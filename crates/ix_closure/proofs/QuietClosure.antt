@@ -22,8 +22,8 @@ use Rattle.ix_closure.specs.Closure.{IsClosure}
 use Rattle.ix_closure.specs.Due.{IsDue, IsRecorded, FollowsIn, claim, passed, inserted, waits, ends, meets}
 use Rattle.ix_closure.specs.Follows.{fact_of, sub_of}
 use Rattle.ix_closure.specs.Seen.{State}
-use Rattle.ix_closure.proofs.Once.{facts_once}
-use Rattle.ix_closure.proofs.Recording.{recorded_in, recorded_by, recorded_closed}
+use Rattle.ix_closure.proofs.FactsOnce.{facts_once}
+use Rattle.ix_closure.proofs.RecordedFacts.{recorded_in, recorded_by, recorded_closed}
 
 -- a fact is recorded or not
 recorded_or_not : (banks : List Bank) (f : Fact) → IsRecorded banks f ⊎ (IsRecorded banks f → ⊥)

@@ -21,15 +21,15 @@ use Rattle.ix_closure.specs.Follows.{fact_of, claims_at}
 use Rattle.ix_closure.specs.Quantity.{times, givers}
 use Rattle.ix_closure.specs.Seen.{State}
 use Rattle.ix_closure.specs.Tidy.{IsTidy, IsOwedOnce}
-use Rattle.ix_closure.proofs.Done.{IsDone, event_done}
-use Rattle.ix_closure.proofs.FirstsOnce.{claims_once}
-use Rattle.ix_closure.proofs.Members.{map_from, flat_has, flat_from}
-use Rattle.ix_closure.proofs.Tidied.{HasCause, IsSingle, tidy_by, begun_cause}
-use Rattle.ix_closure.proofs.TidyArrive.{arrive_tidy}
+use Rattle.ix_closure.proofs.TidyStep.{IsDone, event_done}
+use Rattle.ix_closure.proofs.FirstSlots.{claims_once}
+use Rattle.ix_closure.proofs.ListMembers.{map_from, flat_has, flat_from}
+use Rattle.ix_closure.proofs.TidyCauses.{HasCause, IsSingle, tidy_by, begun_cause}
+use Rattle.ix_closure.proofs.TidyArrival.{arrive_tidy}
 use Rattle.ix_closure.proofs.TidyClaim.{claim_tidy}
 use Rattle.ix_closure.proofs.TidyEdge.{edge_tidy}
 use Rattle.ix_closure.proofs.TidyEnd.{end_tidy}
-use Rattle.ix_closure.proofs.Times.{times_none, times_once}
+use Rattle.ix_closure.proofs.OwedTimes.{times_none, times_once}
 
 -- by the kind of its step
 step_tidy : (plan : Parts) → IsPlanned plan → (old new : State) (n : ℕ) (log : List Fact) (step : Owed) (more : List Owed) → IsDone plan old new n log step more → IsTidy plan old → IsBalanced plan new → IsTidy plan new

@@ -14,7 +14,7 @@ use Rattle.ix_closure.specs.declared.owed.Owed.{Owed}
 use Rattle.ix_closure.specs.declared.owed.Owed.TheVariants.{Claim, Edge, End, Arrive}
 use Rattle.ix_closure.specs.Events.{log_after}
 use Rattle.ix_closure.specs.Follows.{fact_of}
-use Rattle.ix_closure.proofs.Recording.{Moves}
+use Rattle.ix_closure.proofs.RecordedFacts.{Moves}
 
 -- where the test of a log fails it has no such fact
 pub has_none : (log : List Fact) (f : Fact) → has log f ≡ false → ¬ (Contains log f)
