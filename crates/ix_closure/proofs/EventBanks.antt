@@ -23,7 +23,7 @@ use Rattle.ix_closure.proofs.BankSound.{bank_sound}
 use Rattle.ix_closure.proofs.DueClosed.{due_closed}
 use Rattle.ix_closure.proofs.StepLogs.{log_keeps}
 use Rattle.ix_closure.proofs.ListMembers.{nth_has}
-use Rattle.ix_closure.proofs.RecordedFacts.{Moves, recorded_closed, set_sound, moves}
+use Rattle.ix_closure.proofs.RecordedFacts.{Moves, recorded_closed, set_sound, set_moves}
 
 module _ (plan : Parts) (planned : IsPlanned plan) (old new : State) (n : ℕ) (balanced : IsBalanced plan old) (event : Event plan old n new) where
   -- the step is due, and what it is to record is in the closure
@@ -48,4 +48,4 @@ module _ (plan : Parts) (planned : IsPlanned plan) (old new : State) (n : ℕ) (
   pub event_moves : Moves (λ f. home_of plan (length old.banks) f ≡ home_for plan (length old.banks) event.step) (IsRecorded old.banks) (IsRecorded new.banks) event.bank.log (log_after plan event.bank.log event.step)
   event_moves =
       subst (λ banks. Moves (λ f. home_of plan (length old.banks) f ≡ home_for plan (length old.banks) event.step) (IsRecorded old.banks) (IsRecorded banks) event.bank.log (log_after plan event.bank.log event.step)) (sym event.done)
-      (moves plan old.banks balanced.sound (home_for plan (length old.banks) event.step) event.bank (bank_after plan event.bank event.step) event.there new_sound (log_keeps plan event.bank.log event.step))
+      (set_moves plan old.banks balanced.sound (home_for plan (length old.banks) event.step) event.bank (bank_after plan event.bank event.step) event.there new_sound (log_keeps plan event.bank.log event.step))

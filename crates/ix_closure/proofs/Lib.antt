@@ -1,7 +1,6 @@
 pub mod Appends
 pub mod BankSound
 pub mod BroughtSteps
-pub mod Claims
 pub mod ClosureWeights
 pub mod ClusterLists
 pub mod CoreSteps

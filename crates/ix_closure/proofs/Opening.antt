@@ -97,17 +97,17 @@ module _ (plan : Parts) (planned : IsPlanned plan) (state : State) (count : ℕ)
         | inr begun ↦ begun_cause plan planned state 0 0 here.1 f begun
       ]
 
-  claim_of : (x : Owed) → Contains state.owed x → (s : ℕ) × Contains (firsts_of plan 0) s × (Claim s 0 0 ≡ x)
-  claim_of x c = map_from (λ s. Claim s 0 0) (firsts_of plan 0) x (subst (λ steps. Contains steps x) owed c)
+  owed_claim : (x : Owed) → Contains state.owed x → (s : ℕ) × Contains (firsts_of plan 0) s × (Claim s 0 0 ≡ x)
+  owed_claim x c = map_from (λ s. Claim s 0 0) (firsts_of plan 0) x (subst (λ steps. Contains steps x) owed c)
 
   once : (x : Owed) → IsSingle x → Contains state.owed x → IsOwedOnce state x
   once x single c = (
     ap (λ steps. times steps x) owed ∙ times_once (claims_at 0 (firsts_of plan 0)) x (claims_once plan planned 0 0) (subst (λ steps. Contains steps x) owed c),
-    (let claim = claim_of x c in λ h. no_claim plan state count banks claim.0 0 0 (subst (λ y. IsRecorded state.banks (fact_of y)) (sym claim.2) h)),
+    (let claim = owed_claim x c in λ h. no_claim plan state count banks claim.0 0 0 (subst (λ y. IsRecorded state.banks (fact_of y)) (sym claim.2) h)),
   )
 
   no_end : (r k e : ℕ) → times state.owed (End r k e) ≤ givers plan (facts_of state.banks) r k e
-  no_end r k e = omega (arith, times_none state.owed (End r k e) (λ c. let claim = claim_of (End r k e) c in let same = claim.2 in cc))
+  no_end r k e = omega (arith, times_none state.owed (End r k e) (λ c. let claim = owed_claim (End r k e) c in let same = claim.2 in cc))
 
   pub opening_tidy : IsBalanced plan state → IsTidy plan state
   opening_tidy balanced = tidy_by plan state balanced caused once no_end

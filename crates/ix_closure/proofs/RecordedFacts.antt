@@ -63,8 +63,8 @@ module _ (plan : Parts) (banks : List Bank) (sound : AreSound plan banks) where
       | inr w ↦ recorded_by (slice_set banks m new) n b f (set_other banks m n new b w e) h
       ]
 
-    pub moves : Moves (λ f. home_of plan (length banks) f ≡ m) (IsRecorded banks) (IsRecorded (slice_set banks m new)) bank.log new.log
-    moves = record {
+    pub set_moves : Moves (λ f. home_of plan (length banks) f ≡ m) (IsRecorded banks) (IsRecorded (slice_set banks m new)) bank.log new.log
+    set_moves = record {
       grows = λ f h. let p = recorded_in banks f h in grows_at f p.0 p.1 p.2 p.3;
       made = λ f h. recorded_by (slice_set banks m new) m new f (set_there banks m bank new there) h;
       from = λ f h. let p = recorded_in (slice_set banks m new) f h in elim (set_from banks m p.0 new p.1 p.2) [
