@@ -1,6 +1,6 @@
 -- What the code of a step appends to the owed steps, one after the other.
-use Rattle.std.proofs.Common.{◌≡◌, ℕ, ◌+◌, List, [], ◌∷◌, ◌++◌, map, sym, ap, ◌∙◌, arith, append_assoc, ◌≤◌, Bool, cond, length, Option, None, Some, refl}
-use Rattle.std.specs.List.{range_with_len, filter_map, cons_option}
+use Rattle.std.proofs.Common.{◌≡◌, ℕ, ◌+◌, Bool, cond, List, [], ◌∷◌, ◌++◌, map, append_assoc, sym, ap, ◌∙◌, arith}
+use Rattle.std.specs.List.{range_with_len}
 use Rattle.std.proofs.lemmas.List.{map-append}
 use Rattle.std.proofs.lemmas.List.FromFn.{map-range_with_len_more}
 use Rattle.ix_model.specs.Parts.{Parts}
@@ -25,13 +25,3 @@ module _ (plan : Parts) (planned : IsPlanned plan) where
 pub two_appends : {X Y : Type 0} (new mid x x' : List X) (f f' : Bool) (cs : List X) (g : Y → X) (es es' : List Y) → new ≡ mid ++ map g es → mid ≡ x ++ cond f cs [] → x ≡ x' → f ≡ f' → es ≡ es' → new ≡ x' ++ (cond f' cs [] ++ map g es')
 two_appends new mid x x' f f' cs g es es' e1 e2 ex ef ee =
     e1 ∙ ap (λ m. m ++ map g es) e2 ∙ append_assoc x (cond f cs []) (map g es) ∙ (λ i. ex i ++ (cond (ef i) cs [] ++ map g (ee i)))
-
-module _ {X Y : Type 0} where
-  -- what is picked of a list is no longer than the list
-  pub length_filter_map : (f : X → Option Y) (xs : List X) → length (filter_map f xs) ≤ length xs
-  length_filter_map f [] = omega arith
-  length_filter_map f (x ∷ xs) = by (f x) (length_filter_map f xs)
-    where
-      by : (o : Option Y) → length (filter_map f xs) ≤ length xs → length (cons_option o (filter_map f xs)) ≤ length (x ∷ xs)
-      by None h = omega (arith, h)
-      by (Some y) h = omega (arith, h)

@@ -1,6 +1,6 @@
--- How many elements of a list pass a test.
-use Rattle.std.proofs.Common.{◌≡◌, ℕ, ◌+◌, ◌≤◌, Bool, true, false, cond, List, [], ◌∷◌, ◌++◌, length, Contains, remove, count_by, Some, slice_get, slice_set, refl, ap, inl, inr, arith}
-use Rattle.std.specs.List.{sum_by}
+-- How many elements a list has, and how many of them pass a test.
+use Rattle.std.proofs.Common.{◌≡◌, ℕ, ◌+◌, ◌≤◌, Bool, true, false, cond, List, [], ◌∷◌, ◌++◌, length, Contains, remove, count_by, Option, None, Some, slice_get, slice_set, refl, ap, inl, inr, arith}
+use Rattle.std.specs.List.{sum_by, filter_map, cons_option}
 use Rattle.std.proofs.lemmas.List.Recursion.{is_count_by}
 use Rattle.std.proofs.lemmas.List.Sums.{sum_by-cons, sum_by-append, sum_by-remove, sum_by-set}
 use Rattle.std.proofs.lemmas.Option.{slice_get_within, get_or_from_slice_get}
@@ -40,3 +40,13 @@ module _ {X : Type 0} where
   -- a sum over a list with one element changed
   pub sum_set : (f : X → ℕ) (xs : List X) (n : ℕ) (old new : X) → slice_get xs n ≡ Some old → sum_by f (slice_set xs n new) + f old ≡ sum_by f xs + f new
   sum_set f xs n old new e = omega (arith, sum_by-set f xs n new new (slice_get_within xs n old e), ap f (get_or_from_slice_get xs n old new e))
+
+module _ {X Y : Type 0} where
+  -- what is picked of a list is no longer than the list
+  pub length_filter_map : (f : X → Option Y) (xs : List X) → length (filter_map f xs) ≤ length xs
+  length_filter_map f [] = omega arith
+  length_filter_map f (x ∷ xs) = by (f x) (length_filter_map f xs)
+    where
+      by : (o : Option Y) → length (filter_map f xs) ≤ length xs → length (cons_option o (filter_map f xs)) ≤ length (x ∷ xs)
+      by None h = omega (arith, h)
+      by (Some y) h = omega (arith, h)

@@ -3,13 +3,14 @@ use Rattle.ix_cluster.specs.Firsts.{firsts_of}
 use Rattle.ix_cluster.specs.Lists.{cluster}
 use Rattle.ix_cluster.specs.Steps.{end_of, edge_is_first, edge_answer}
 use Rattle.ix_closure.specs.Follows.{claims_at, arrival}
-use Rattle.ix_closure.proofs.Appends.{two_appends, length_filter_map}
+use Rattle.ix_closure.proofs.Appends.{two_appends}
+use Rattle.ix_closure.proofs.ListCounts.{length_filter_map}
 use Rattle.ix_closure.proofs.steps.do_edge.Goals as goal
 
 pub overflow_add-alternatives : goal.overflow_add-alternatives
 overflow_add-alternatives c =
     let few = length_filter_map (end_of (cluster c.args.rule c.args.at)) c.args.bank.now.log in
-    omega (arith, few, c.end_count.ensures, c.fact_count.ensures.count, c.fact_count.ensures.bounded, c.alt_count-alternatives.auto)
+    omega (arith, few, c.end_count.ensures, c.fact_count.ensures.count, c.fact_count.ensures.bounded)
 
 pub returns-clause-owed : goal.returns-clause-owed
 returns-clause-owed c =
