@@ -1,5 +1,5 @@
 -- What a step brings is exactly what becomes due by it.
-use Rattle.std.proofs.Common.{◌≡◌, ℕ, ◌+◌, Bool, true, false, cond, not, List, [], ◌∷◌, ◌++◌, Contains, map, Option, Some, None, refl, sym, ap, ◌∙◌, subst, ◌⊎◌, inl, inr}
+use Rattle.std.proofs.Common.{◌≡◌, ℕ, ◌+◌, Bool, true, false, cond, not, List, [], ◌∷◌, ◌++◌, Contains, map, Option, refl, sym, subst, ◌⊎◌, inl, inr}
 use Rattle.std.proofs.lemmas.List.Elements.{Contains-append_left, Contains-append_right, Contains-append_cases}
 use Rattle.ix_model.specs.declared.grammar.Mark.{Mark}
 use Rattle.ix_model.specs.declared.rules.Sym.TheVariants as sy
@@ -10,7 +10,6 @@ use Rattle.ix_model.specs.SlotPlaces.{HasNext}
 use Rattle.ix_model.proofs.SlotReaders.{next_reads}
 use Rattle.ix_cluster.specs.declared.answers.Arrived.TheVariants.{Fresh, Known}
 use Rattle.ix_cluster.specs.declared.answers.Claimed.TheVariants as whose
-use Rattle.ix_cluster.specs.declared.cluster.Edge.{Edge as Arc}
 use Rattle.ix_cluster.specs.declared.fact.Fact.{Fact}
 use Rattle.ix_cluster.specs.declared.fact.Fact.TheVariants as fact
 use Rattle.ix_cluster.specs.ClosedFacts.{IsInClosed}
@@ -22,7 +21,7 @@ use Rattle.ix_cluster.proofs.Calls.{IsBegun, call-desc}
 use Rattle.ix_cluster.proofs.Members.{first_has, one_has, none_has, has-Contains, Contains-has, put-keeps, put-there}
 use Rattle.ix_closure.specs.declared.owed.Owed.{Owed}
 use Rattle.ix_closure.specs.declared.owed.Owed.TheVariants.{Claim, Edge, End, Arrive}
-use Rattle.ix_closure.specs.Due.{IsDue, claim, passed, inserted, waits, ends, meets}
+use Rattle.ix_closure.specs.Due.{IsDue, claim, meets}
 use Rattle.ix_closure.specs.Events.{log_after}
 use Rattle.ix_closure.specs.Follows.{fact_of, sub_of, arrival, claims_at, claim_of, FollowsDesc, FollowsClaim, Follows}
 use Rattle.ix_closure.proofs.ClusterLists.{edges_have, ends_have, edges_from, ends_from}

@@ -1,7 +1,6 @@
 -- What a claimed descriptor brings, by the symbol behind its dot.
 use Rattle.std.proofs.Common.{◌≡◌, ℕ, ◌+◌, ◌<◌, ◌≤◌, Bool, List, [], ◌∷◌, Contains, length, Option, Some, None, slice_get, refl, sym, ap, ◌∙◌, subst, ◌⊎◌, inl, inr, arith}
 use Rattle.std.proofs.lemmas.Option.{slice_get-get_or, get_or_from_slice_get}
-use Rattle.ix_model.specs.declared.grammar.Mark.{Mark}
 use Rattle.ix_model.specs.declared.rules.Sym.{Sym}
 use Rattle.ix_model.specs.declared.rules.Sym.TheVariants as sy
 use Rattle.ix_model.specs.declared.rules.Terminal.{Terminal}
@@ -11,13 +10,12 @@ use Rattle.ix_model.specs.Planned.{IsPlanned}
 use Rattle.ix_model.specs.FlatDerives.{IsTerminal, TerminalMatches}
 use Rattle.ix_model.specs.Numbered.{terminal_at}
 use Rattle.ix_model.specs.Slots.{info_at, sym_after}
-use Rattle.ix_model.specs.SlotPlaces.{HasNext, IsLast}
-use Rattle.ix_model.proofs.SlotReaders.{next_reads, last_reads, reads_next, reads_last}
+use Rattle.ix_model.proofs.SlotReaders.{next_reads, last_reads, reads_next}
 use Rattle.ix_cluster.specs.declared.fact.Fact.{Fact}
 use Rattle.ix_cluster.specs.declared.fact.Fact.TheVariants as fact
 use Rattle.ix_cluster.proofs.Members.{one_has, none_has}
 use Rattle.ix_closure.specs.declared.owed.Owed.{Owed}
-use Rattle.ix_closure.specs.declared.owed.Owed.TheVariants.{Claim, Edge, End, Arrive}
+use Rattle.ix_closure.specs.declared.owed.Owed.TheVariants.{Edge, End, Arrive}
 use Rattle.ix_closure.specs.Due.{IsDue}
 use Rattle.ix_closure.specs.Due as due
 use Rattle.ix_closure.specs.Follows.{FollowsDesc, passes, stops, inserts, calls, ends, sub_of}

@@ -1,13 +1,10 @@
 -- What follows from facts of the closure is in the closure.
-use Rattle.std.proofs.Common.{ℕ}
-use Rattle.ix_model.specs.declared.sub.Sub.{Sub}
 use Rattle.ix_model.specs.Parts.{Parts}
 use Rattle.ix_model.specs.Closed as closed
 use Rattle.ix_cluster.specs.declared.fact.Fact.{Fact}
 use Rattle.ix_cluster.specs.declared.fact.Fact.TheVariants as fact
 use Rattle.ix_cluster.specs.ClosedFacts.{IsInClosed}
 use Rattle.ix_closure.specs.declared.owed.Owed.{Owed}
-use Rattle.ix_closure.specs.declared.owed.Owed.TheVariants as step
 use Rattle.ix_closure.specs.Due.{IsDue, claim, passed, inserted, waits, ends, meets}
 use Rattle.ix_closure.specs.Follows.{fact_of}
 

@@ -1,5 +1,5 @@
 -- An event keeps a state balanced.
-use Rattle.std.proofs.Common.{◌≡◌, ℕ, List, ◌++◌, Contains, length, remove, refl, sym, subst, ◌⊎◌, inl, inr}
+use Rattle.std.proofs.Common.{◌≡◌, ℕ, List, ◌++◌, Contains, length, remove, refl, sym, subst, inl, inr}
 use Rattle.std.proofs.lemmas.List.Elements.{Contains-append_left, Contains-append_right, Contains-append_cases}
 use Rattle.ix_model.specs.Parts.{Parts}
 use Rattle.ix_model.specs.Planned.{IsPlanned}
@@ -38,18 +38,18 @@ module _ (plan : Parts) (planned : IsPlanned plan) (old new : State) (n : ℕ) (
 
   missing_owed : (o : Owed) → IsMissing plan new.banks o → Contains (remove old.owed n ++ event.more) o
   missing_owed o (due, none) = elim (event_brings.newly o due) [
-      inr h ↦ Contains-append_right (remove old.owed n) event.more o h
+    | inr h ↦ Contains-append_right (remove old.owed n) event.more o h
     | inl before ↦ elim (taken_or_left old.owed n event.step o event.taken (balanced.missing o (before, λ h. none (moves.grows (fact_of o) h)))) [
-        inl e ↦ absurd (none (subst (λ (z : Owed). IsRecorded new.banks (fact_of z)) e event_brings.done))
+      | inl e ↦ absurd (none (subst (λ (z : Owed). IsRecorded new.banks (fact_of z)) e event_brings.done))
       | inr h ↦ Contains-append_left (remove old.owed n) event.more o h
-      ]
     ]
+  ]
 
   owed_due : (o : Owed) → Contains (remove old.owed n ++ event.more) o → FollowsIn plan new.banks o
   owed_due o h = elim (Contains-append_cases (remove old.owed n) event.more o h) [
-      inl l ↦ due_grows plan (IsRecorded old.banks) (IsRecorded new.banks) moves.grows o (balanced.caused o (left_was old.owed n o l))
+    | inl l ↦ due_grows plan (IsRecorded old.banks) (IsRecorded new.banks) moves.grows o (balanced.caused o (left_was old.owed n o l))
     | inr l ↦ event_brings.causes o l
-    ]
+  ]
 
   pub event_balanced : IsBalanced plan new
   event_balanced = record {

@@ -1,19 +1,10 @@
 -- What an event does to the banks.
-use Rattle.std.proofs.Common.{◌≡◌, ℕ, Bool, true, false, cond, List, Contains, length, Some, slice_get, slice_set, refl, sym, ap, ◌∙◌, subst}
+use Rattle.std.proofs.Common.{◌≡◌, ℕ, length, refl, sym, subst}
 use Rattle.ix_model.specs.Parts.{Parts}
 use Rattle.ix_model.specs.Planned.{IsPlanned}
-use Rattle.ix_cluster.specs.declared.fact.Fact.{Fact}
-use Rattle.ix_cluster.specs.declared.fact.Fact.TheVariants as fact
 use Rattle.ix_cluster.specs.ClosedFacts.{IsInClosed}
-use Rattle.ix_cluster.specs.Facts.{has, put}
 use Rattle.ix_cluster.specs.Homes.{home_of}
-use Rattle.ix_cluster.specs.Seen.{Bank}
 use Rattle.ix_cluster.specs.Sound.{IsSound, AreSound}
-use Rattle.ix_cluster.specs.Steps.{after_call}
-use Rattle.ix_cluster.proofs.Calls.{call-keeps}
-use Rattle.ix_cluster.proofs.Members.{put-keeps}
-use Rattle.ix_closure.specs.declared.owed.Owed.{Owed}
-use Rattle.ix_closure.specs.declared.owed.Owed.TheVariants.{Claim, Edge, End, Arrive}
 use Rattle.ix_closure.specs.Balance.{IsBalanced}
 use Rattle.ix_closure.specs.Due.{IsRecorded, FollowsIn}
 use Rattle.ix_closure.specs.Events.{Event, log_after, bank_after, home_for}

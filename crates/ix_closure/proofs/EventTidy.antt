@@ -1,35 +1,19 @@
 -- An event keeps a state tidy.
-use Rattle.std.proofs.Common.{◌≡◌, ◌==◌, ℕ, ◌<◌, ◌≤◌, Bool, true, false, cond, List, [], length, Contains, sym, ap, ◌∙◌, subst, ◌⊎◌, inl, inr, arith}
-use Rattle.std.specs.List.{range_with_len}
+use Rattle.std.proofs.Common.{ℕ, List}
 use Rattle.ix_model.specs.Parts.{Parts}
 use Rattle.ix_model.specs.Planned.{IsPlanned}
 use Rattle.ix_cluster.specs.declared.fact.Fact.{Fact}
-use Rattle.ix_cluster.specs.declared.fact.Fact.TheVariants as fact
-use Rattle.ix_cluster.specs.Banks.{opening, opening_bank, facts_of}
-use Rattle.ix_cluster.specs.Firsts.{firsts_of}
-use Rattle.ix_cluster.specs.Homes.{home}
-use Rattle.ix_cluster.specs.Seen.{Bank}
-use Rattle.ix_cluster.specs.Steps.{after_call}
-use Rattle.ix_cluster.proofs.Calls.{IsBegun, call-from, call-there}
-use Rattle.ix_cluster.proofs.Members.{none_has}
 use Rattle.ix_closure.specs.declared.owed.Owed.{Owed}
 use Rattle.ix_closure.specs.declared.owed.Owed.TheVariants.{Claim, Edge, End, Arrive}
 use Rattle.ix_closure.specs.Balance.{IsBalanced}
-use Rattle.ix_closure.specs.Due.{IsRecorded}
 use Rattle.ix_closure.specs.Events.{Event}
-use Rattle.ix_closure.specs.Follows.{fact_of, claims_at}
-use Rattle.ix_closure.specs.Quantity.{times, givers}
 use Rattle.ix_closure.specs.Seen.{State}
-use Rattle.ix_closure.specs.Tidy.{IsTidy, IsOwedOnce}
+use Rattle.ix_closure.specs.Tidy.{IsTidy}
 use Rattle.ix_closure.proofs.TidyStep.{IsDone, event_done}
-use Rattle.ix_closure.proofs.FirstSlots.{claims_once}
-use Rattle.ix_closure.proofs.ListMembers.{map_from, flat_has, flat_from}
-use Rattle.ix_closure.proofs.TidyCauses.{HasCause, IsSingle, tidy_by, begun_cause}
 use Rattle.ix_closure.proofs.TidyArrival.{arrive_tidy}
 use Rattle.ix_closure.proofs.TidyClaim.{claim_tidy}
 use Rattle.ix_closure.proofs.TidyEdge.{edge_tidy}
 use Rattle.ix_closure.proofs.TidyEnd.{end_tidy}
-use Rattle.ix_closure.proofs.OwedTimes.{times_none, times_once}
 
 -- by the kind of its step
 step_tidy : (plan : Parts) → IsPlanned plan → (old new : State) (n : ℕ) (log : List Fact) (step : Owed) (more : List Owed) → IsDone plan old new n log step more → IsTidy plan old → IsBalanced plan new → IsTidy plan new

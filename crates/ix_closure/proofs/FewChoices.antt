@@ -1,10 +1,8 @@
 -- A list of choices is no longer than twice the descriptors of the closure, and its pairs of an edge and an end.
-use Rattle.std.proofs.Common.{◌≡◌, ℕ, zero, suc, ◌+◌, ◌≤◌, Bool, true, false, List, [], ◌∷◌, length, length-append, remove, Contains, Some, slice_get, slice_set, refl, sym, ap, ◌∙◌, subst, arith, true≢false}
+use Rattle.std.proofs.Common.{◌≡◌, ℕ, ◌+◌, ◌≤◌, Bool, true, false, List, [], ◌∷◌, length, length-append, remove, Contains, Some, slice_get, refl, sym, ap, ◌∙◌, subst, arith, true≢false}
 use Rattle.std.proofs.lemmas.List.{length-map}
 use Rattle.std.proofs.lemmas.List.Edits.{length-remove}
-use Rattle.std.proofs.lemmas.List.FromFn.{length-map-range_with_len}
 use Rattle.std.proofs.lemmas.Option.{slice_get_within}
-use Rattle.ix_model.specs.Numbered.{lines_at}
 use Rattle.ix_model.specs.Parts.{Parts}
 use Rattle.ix_model.specs.Planned.{IsPlanned}
 use Rattle.ix_model.specs.SlotPlaces.{IsFirst}
@@ -13,10 +11,9 @@ use Rattle.ix_cluster.specs.declared.fact.Fact.{Fact}
 use Rattle.ix_cluster.specs.declared.fact.Fact.TheVariants as fact
 use Rattle.ix_cluster.specs.Banks.{opening}
 use Rattle.ix_cluster.specs.Facts.{has}
-use Rattle.ix_cluster.specs.Firsts.{first_slot, firsts_of}
+use Rattle.ix_cluster.specs.Firsts.{firsts_of}
 use Rattle.ix_cluster.specs.Homes.{home}
 use Rattle.ix_cluster.specs.Seen.{Bank}
-use Rattle.ix_cluster.proofs.Beginning.{firsts_are}
 use Rattle.ix_cluster.proofs.Members.{Contains-has, has-Contains}
 use Rattle.ix_closure.specs.declared.owed.Owed.TheVariants.{Claim}
 use Rattle.ix_closure.specs.Closure.{IsClosure}

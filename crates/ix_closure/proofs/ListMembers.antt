@@ -1,5 +1,5 @@
 -- What lists have that are made of other lists.
-use Rattle.std.proofs.Common.{◌≡◌, ℕ, zero, suc, Bool, true, false, cond, List, [], ◌∷◌, ◌++◌, Contains, map, remove, Option, Some, None, slice_get, refl, sym, ap, ◌∙◌, subst, ◌⊎◌, inl, inr, arith}
+use Rattle.std.proofs.Common.{◌≡◌, ℕ, zero, suc, List, [], ◌∷◌, Contains, map, remove, Option, Some, None, slice_get, refl, sym, ap, ◌∙◌, subst, ◌⊎◌, inl, inr}
 use Rattle.std.specs.List.{All, filter_map, flat_map, cons_option}
 use Rattle.std.proofs.lemmas.List.Concat.{flat_map-cons}
 use Rattle.std.proofs.lemmas.List.Elements.{All-contains_itself, All-weaker, Contains-append_left, Contains-append_right, Contains-append_cases}
@@ -14,9 +14,9 @@ module _ {X : Type 0} where
   pub place_in : (xs : List X) (x : X) → Contains xs x → (n : ℕ) × (slice_get xs n ≡ Some x)
   place_in [] x h = absurd (none_has x h)
   place_in (y ∷ ys) x h = elim (either_has y ys x h) [
-      inl e ↦ (0, ap Some e)
+    | inl e ↦ (0, ap Some e)
     | inr r ↦ let p = place_in ys x r in (suc p.0, p.1)
-    ]
+  ]
 
   pub all_have : (P : X → Type 0) (xs : List X) → ((x : X) → Contains xs x → P x) → All P xs
   all_have P xs h = All-weaker (Contains xs) P h xs (All-contains_itself xs)
@@ -33,24 +33,24 @@ module _ {X : Type 0} where
   taken_or_left [] n y x e h = absurd (none_has x h)
   taken_or_left (z ∷ zs) zero y x e h = elim (either_has z zs x h) [ inl w ↦ inl (cc) | inr r ↦ inr r ]
   taken_or_left (z ∷ zs) (suc n) y x e h = elim (either_has z zs x h) [
-      inl w ↦ inr (subst (Contains (z ∷ remove zs n)) w (first_has z (remove zs n)))
+    | inl w ↦ inr (subst (Contains (z ∷ remove zs n)) w (first_has z (remove zs n)))
     | inr r ↦ elim (taken_or_left zs n y x e r) [ inl w ↦ inl w | inr l ↦ inr (rest_has z (remove zs n) x l) ]
-    ]
+  ]
 
 module _ {X Y : Type 0} where
   pub map_has : (f : X → Y) (xs : List X) (x : X) → Contains xs x → Contains (map f xs) (f x)
   map_has f [] x h = absurd (none_has x h)
   map_has f (y ∷ ys) x h = elim (either_has y ys x h) [
-      inl e ↦ subst (λ z. Contains (map f (y ∷ ys)) (f z)) e (first_has (f y) (map f ys))
+    | inl e ↦ subst (λ z. Contains (map f (y ∷ ys)) (f z)) e (first_has (f y) (map f ys))
     | inr r ↦ rest_has (f y) (map f ys) (f x) (map_has f ys x r)
-    ]
+  ]
 
   pub map_from : (f : X → Y) (xs : List X) (y : Y) → Contains (map f xs) y → (x : X) × Contains xs x × (f x ≡ y)
   map_from f [] y h = absurd (none_has y h)
   map_from f (x ∷ xs) y h = elim (either_has (f x) (map f xs) y h) [
-      inl e ↦ (x, first_has x xs, e)
+    | inl e ↦ (x, first_has x xs, e)
     | inr r ↦ let p = map_from f xs y r in (p.0, rest_has x xs p.0 p.1, p.2)
-    ]
+  ]
 
   pub filter_has : (f : X → Option Y) (xs : List X) (x : X) (y : Y) → Contains xs x → f x ≡ Some y → Contains (filter_map f xs) y
   filter_has f [] x y h e = absurd (none_has x h)
@@ -73,13 +73,13 @@ module _ {X Y : Type 0} where
   pub flat_has : (f : X → List Y) (xs : List X) (x : X) (y : Y) → Contains xs x → Contains (f x) y → Contains (flat_map f xs) y
   flat_has f [] x y h k = absurd (none_has x h)
   flat_has f (z ∷ zs) x y h k = subst (λ l. Contains l y) (sym (flat_map-cons f z zs)) (elim (either_has z zs x h) [
-      inl e ↦ Contains-append_left (f z) (flat_map f zs) y (subst (λ w. Contains (f w) y) (sym e) k)
+    | inl e ↦ Contains-append_left (f z) (flat_map f zs) y (subst (λ w. Contains (f w) y) (sym e) k)
     | inr r ↦ Contains-append_right (f z) (flat_map f zs) y (flat_has f zs x y r k)
-    ])
+  ])
 
   pub flat_from : (f : X → List Y) (xs : List X) (y : Y) → Contains (flat_map f xs) y → (x : X) × Contains xs x × Contains (f x) y
   flat_from f [] y h = absurd (none_has y h)
   flat_from f (z ∷ zs) y h = elim (Contains-append_cases (f z) (flat_map f zs) y (subst (λ l. Contains l y) (flat_map-cons f z zs) h)) [
-      inl e ↦ (z, first_has z zs, e)
+    | inl e ↦ (z, first_has z zs, e)
     | inr r ↦ let p = flat_from f zs y r in (p.0, rest_has z zs p.0 p.1, p.2)
-    ]
+  ]

@@ -27,6 +27,6 @@ module _ {X : Type 0} where
   set_from (x ∷ xs) zero (suc j) y z e = inr ((λ h. omega (arith, h)), e)
   set_from (x ∷ xs) (suc i) zero y z e = inr ((λ h. omega (arith, h)), e)
   set_from (x ∷ xs) (suc i) (suc j) y z e = elim (set_from xs i j y z e) [
-      inl h ↦ inl (ap suc h.0, h.1)
+    | inl h ↦ inl (ap suc h.0, h.1)
     | inr h ↦ inr ((λ w. h.0 (omega (arith, w))), h.1)
-    ]
+  ]

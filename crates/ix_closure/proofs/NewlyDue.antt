@@ -1,5 +1,5 @@
 -- What becomes due when facts are recorded.
-use Rattle.std.proofs.Common.{◌≡◌, ℕ, List, [], ◌∷◌, Contains, Option, ap, subst, ◌⊎◌, inl, inr}
+use Rattle.std.proofs.Common.{ℕ, [], ◌∷◌, Option, ◌⊎◌, inl, inr}
 use Rattle.ix_model.specs.declared.grammar.Mark.{Mark}
 use Rattle.ix_model.specs.declared.rules.Sym.TheVariants as sy
 use Rattle.ix_model.specs.Parts.{Parts}
@@ -34,25 +34,25 @@ module _ (plan : Parts) (Before After : Fact → Type 0) where
   pub due_split : (New : Fact → Type 0) → ((f : Fact) → After f → Before f ⊎ New f) → (o : Owed) → IsDue plan After o → IsDue plan Before o ⊎ IsNewlyDue plan New After o
   due_split New from o (claim s l p h) = elim (from (fact.Desc s l p) h) [ inl b ↦ inl (claim s l p b) | inr n ↦ inr (by_desc s l p n) ]
   due_split New from o (passed s l p after e x h n t) = elim (from (fact.Claim s l p) h) [
-      inl b ↦ inl (passed s l p after e x b n t)
+    | inl b ↦ inl (passed s l p after e x b n t)
     | inr w ↦ inr (by_claim s l p (Arrive (sub_of after l p e)) w (follows.passes x after e n t))
-    ]
+  ]
   due_split New from o (inserted s l p after n h next) = elim (from (fact.Claim s l p) h) [
-      inl b ↦ inl (inserted s l p after n b next)
+    | inl b ↦ inl (inserted s l p after n b next)
     | inr w ↦ inr (by_claim s l p (Arrive (sub_of after l p p)) w (follows.inserts n after next))
-    ]
+  ]
   due_split New from o (waits s l p after r mark h next) = elim (from (fact.Claim s l p) h) [
-      inl b ↦ inl (waits s l p after r mark b next)
+    | inl b ↦ inl (waits s l p after r mark b next)
     | inr w ↦ inr (by_claim s l p (Edge r p s l) w (follows.calls r after mark next))
-    ]
+  ]
   due_split New from o (ends s l p r h last) = elim (from (fact.Claim s l p) h) [
-      inl b ↦ inl (ends s l p r b last)
+    | inl b ↦ inl (ends s l p r b last)
     | inr w ↦ inr (by_claim s l p (End r l p) w (follows.ends r last))
-    ]
+  ]
   due_split New from o (meets r k s l e after mark edge end next) = elim (from (fact.Edge r k s l) edge) [
-      inr n ↦ inr (by_edge r k s l e after mark n end next)
+    | inr n ↦ inr (by_edge r k s l e after mark n end next)
     | inl b ↦ elim (from (fact.End r k e) end) [
-        inl c ↦ inl (meets r k s l e after mark b c next)
+      | inl c ↦ inl (meets r k s l e after mark b c next)
       | inr n ↦ inr (by_end r k s l e after mark edge n next)
-      ]
     ]
+  ]

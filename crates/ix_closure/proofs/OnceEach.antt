@@ -1,9 +1,9 @@
 -- Lists in which each element stands once.
-use Rattle.std.proofs.Common.{◌≡◌, ℕ, zero, suc, ◌+◌, ◌<◌, ◌≤◌, Bool, true, false, List, [], ◌∷◌, Contains, map, Option, Some, None, refl, sym, ◌∙◌, subst, inl, inr, arith, true≢false}
+use Rattle.std.proofs.Common.{◌≡◌, Bool, true, false, List, [], ◌∷◌, Contains, map, Option, Some, None, refl, sym, ◌∙◌, subst, true≢false}
 use Rattle.std.specs.List.{IsDistinct, filter_map, cons_option}
 use Rattle.std.proofs.lemmas.List.Elements.{All-from_recursion, All-contains}
 use Rattle.std.proofs.lemmas.Map.Keys.{IsDistinct-head, IsDistinct-tail}
-use Rattle.ix_cluster.proofs.Members.{either_has, none_has, rest_has, first_has}
+use Rattle.ix_cluster.proofs.Members.{rest_has, first_has}
 use Rattle.ix_closure.proofs.ListMembers.{map_from, filter_from}
 
 module _ {X : Type 0} where

@@ -14,7 +14,7 @@ use Rattle.ix_cluster.specs.Steps.{after_call}
 use Rattle.ix_cluster.proofs.Calls.{IsBegun, call-there, call-from, call-desc}
 use Rattle.ix_cluster.proofs.Members.{none_has}
 use Rattle.ix_closure.specs.declared.owed.Owed.{Owed}
-use Rattle.ix_closure.specs.declared.owed.Owed.TheVariants.{Claim, Edge, End, Arrive}
+use Rattle.ix_closure.specs.declared.owed.Owed.TheVariants.{Claim, End}
 use Rattle.ix_closure.specs.Balance.{IsBalanced}
 use Rattle.ix_closure.specs.Due.{IsRecorded, FollowsIn, claim, passed, inserted, waits, ends, meets}
 use Rattle.ix_closure.specs.Follows.{fact_of, claims_at}
@@ -59,12 +59,12 @@ module _ (plan : Parts) (state : State) (banks : state.banks ≡ opening plan 1)
   desc_owed : (s l p : ℕ) → IsRecorded state.banks (fact.Desc s l p) → Contains (claims_at 0 (firsts_of plan 0)) (Claim s l p)
   unfolding IsBegun
   desc_owed s l p h = elim (opened plan state 1 banks (fact.Desc s l p) h).0 [
-      inl e ↦ absurd (cc e)
+    | inl e ↦ absurd (cc e)
     | inr b ↦ elim b.2 [
-        inl e ↦ let q : Claim b.0 0 0 ≡ Claim s l p = (cc e) in subst (Contains (claims_at 0 (firsts_of plan 0))) q (map_has (λ n. Claim n 0 0) (firsts_of plan 0) b.0 b.1)
+      | inl e ↦ let q : Claim b.0 0 0 ≡ Claim s l p = (cc e) in subst (Contains (claims_at 0 (firsts_of plan 0))) q (map_has (λ n. Claim n 0 0) (firsts_of plan 0) b.0 b.1)
       | inr e ↦ absurd (cc (e.1))
-      ]
     ]
+  ]
 
   due_owed : (o : Owed) → FollowsIn plan state.banks o → Contains (claims_at 0 (firsts_of plan 0)) o
   due_owed o (claim s l p h) = desc_owed s l p h

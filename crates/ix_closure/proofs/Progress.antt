@@ -1,12 +1,10 @@
 -- A step records a fact, or fewer steps are owed behind it.
-use Rattle.std.proofs.Common.{◌≡◌, ℕ, ◌+◌, ◌-◌, ◌*◌, ◌≤◌, ◌<◌, ◌^◌, zero, suc, Bool, true, false, cond, not, List, [], ◌∷◌, ◌++◌, length, length-append, append-nil, map, remove, Some, slice_get, slice_set, Contains, refl, sym, ap, ◌∙◌, subst, ◌⊎◌, inl, inr, arith}
-use Rattle.std.specs.List.{count_by}
+use Rattle.std.proofs.Common.{◌≡◌, ℕ, ◌+◌, ◌-◌, ◌*◌, ◌≤◌, ◌<◌, ◌^◌, Bool, true, false, cond, not, List, [], ◌++◌, length, append-nil, map, remove, Some, slice_get, slice_set, Contains, refl, ap, ◌∙◌, ◌⊎◌, inl, inr, arith}
 use Rattle.std.proofs.Math.Nat.{mul-le-mul_right}
 use Rattle.std.proofs.lemmas.List.Concat.{length-flat_map}
 use Rattle.std.proofs.lemmas.List.Edits.{length-remove}
 use Rattle.std.proofs.lemmas.List.Sums.{sum_by-le}
 use Rattle.std.proofs.lemmas.Option.{slice_get_within}
-use Rattle.ix_model.specs.declared.sub.Sub.{Sub}
 use Rattle.ix_model.specs.Parts.{Parts}
 use Rattle.ix_cluster.specs.declared.answers.Arrived.TheVariants.{Fresh, Known}
 use Rattle.ix_cluster.specs.declared.answers.Claimed.TheVariants.{Mine, Taken, Unknown}
@@ -17,7 +15,7 @@ use Rattle.ix_cluster.specs.Facts.{has, put}
 use Rattle.ix_cluster.specs.Firsts.{firsts_of}
 use Rattle.ix_cluster.specs.Lists.{cluster}
 use Rattle.ix_cluster.specs.Seen.{Bank}
-use Rattle.ix_cluster.specs.Sound.{IsSound, AreSound}
+use Rattle.ix_cluster.specs.Sound.{AreSound}
 use Rattle.ix_cluster.specs.Steps.{after_call, edges_in, ends_in}
 use Rattle.ix_cluster.proofs.Listing.{has-put_other, has-call_edge}
 use Rattle.ix_closure.specs.declared.owed.Owed.{Owed}
@@ -93,9 +91,9 @@ event_shrinks plan old new n event =
     let set = facts_set old.banks (home_for plan (length old.banks) event.step) event.bank (bank_after plan event.bank event.step) event.there in
     let all = ap (λ (z : List Bank). length (facts_of z)) event.done in
     elim (progress plan event.bank.log event.step event.more event.follows) [
-        inl h ↦ inl (omega (arith, all, set, h))
+      | inl h ↦ inl (omega (arith, all, set, h))
       | inr h ↦ inr (omega (arith, all, set, after_longer plan event.bank.log event.step), omega (arith, ap length event.owed, ap (λ (z : List Owed). length (remove old.owed n ++ z)) h, ap length (append-nil (remove old.owed n)), length-remove old.owed n (slice_get_within old.owed n event.step event.taken)))
-      ]
+    ]
 
 -- the room that is left for facts counts most, and then the number of owed steps
 pub falls : (top w l l' q q' : ℕ) → l' ≤ top → q' < w → (l + 1 ≤ l') ⊎ ((l ≤ l') × (q' + 1 ≡ q)) → (top - l') * w + q' < (top - l) * w + q

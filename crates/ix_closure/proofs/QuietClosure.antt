@@ -1,8 +1,7 @@
 -- A balanced state in which nothing is owed has recorded exactly the closure.
-use Rattle.std.proofs.Common.{◌≡◌, ℕ, Bool, true, false, List, [], ◌<◌, length, Some, slice_get, get_or, arith, Contains, refl, sym, subst, ◌⊎◌, inl, inr}
+use Rattle.std.proofs.Common.{◌≡◌, ℕ, List, [], ◌<◌, length, get_or, arith, Contains, refl, subst, ◌⊎◌, inl, inr}
 use Rattle.std.proofs.lemmas.List.{nil_from_length}
 use Rattle.std.proofs.lemmas.Option.{slice_get-get_or}
-use Rattle.ix_model.specs.declared.grammar.Mark.{Mark}
 use Rattle.ix_model.specs.Parts.{Parts}
 use Rattle.ix_model.specs.Closed as closed
 use Rattle.ix_cluster.specs.declared.fact.Fact.{Fact}
@@ -19,7 +18,7 @@ use Rattle.ix_closure.specs.declared.owed.Owed.{Owed}
 use Rattle.ix_closure.specs.declared.owed.Owed.TheVariants as step
 use Rattle.ix_closure.specs.Balance.{IsBalanced}
 use Rattle.ix_closure.specs.Closure.{IsClosure}
-use Rattle.ix_closure.specs.Due.{IsDue, IsRecorded, FollowsIn, claim, passed, inserted, waits, ends, meets}
+use Rattle.ix_closure.specs.Due.{IsRecorded, FollowsIn, claim, passed, inserted, waits, ends, meets}
 use Rattle.ix_closure.specs.Follows.{fact_of, sub_of}
 use Rattle.ix_closure.specs.Seen.{State}
 use Rattle.ix_closure.proofs.FactsOnce.{facts_once}
@@ -28,9 +27,9 @@ use Rattle.ix_closure.proofs.RecordedFacts.{recorded_in, recorded_by, recorded_c
 -- a fact is recorded or not
 recorded_or_not : (banks : List Bank) (f : Fact) → IsRecorded banks f ⊎ (IsRecorded banks f → ⊥)
 recorded_or_not banks f = elim (either (has (facts_of banks) f)) [
-    inl h ↦ inl (Contains-has (facts_of banks) f h)
+  | inl h ↦ inl (Contains-has (facts_of banks) f h)
   | inr n ↦ inr (λ h. absurd (cc (has-Contains (facts_of banks) f h, n)))
-  ]
+]
 
 -- sound banks have the call of the first rule at the start
 first_called : (plan : Parts) (banks : List Bank) → AreSound plan banks → IsRecorded banks (fact.Called 0 0)
@@ -45,9 +44,9 @@ module _ (plan : Parts) (state : State) (balanced : IsBalanced plan state) (quie
   -- what is due is recorded
   recorded : (o : Owed) → FollowsIn plan state.banks o → IsRecorded state.banks (fact_of o)
   recorded o due = elim (recorded_or_not state.banks (fact_of o)) [
-      inl h ↦ h
+    | inl h ↦ h
     | inr n ↦ absurd (none_has o (subst (λ (z : List Owed). Contains z o) quiet (balanced.missing o (due, n))))
-    ]
+  ]
 
   claimed : (s l p : ℕ) → IsRecorded state.banks (fact.Desc s l p) → IsRecorded state.banks (fact.Claim s l p)
   claimed s l p h = recorded (step.Claim s l p) (claim s l p h)

@@ -1,10 +1,8 @@
 -- The numbers of a step that is owed are in range.
-use Rattle.std.proofs.Common.{◌≡◌, ℕ, ◌+◌, ◌<◌, ◌≤◌, Bool, true, false, cond, List, [], Contains, length, Option, Some, None, IsSome, is_some, refl, sym, ap, ◌∙◌, subst}
-use Rattle.ix_model.specs.declared.rules.Sym.{Sym}
+use Rattle.std.proofs.Common.{ℕ, ◌+◌, Bool, true, false, cond, List, [], Contains, is_some, ap}
 use Rattle.ix_model.specs.declared.rules.Sym.TheVariants as sy
 use Rattle.ix_model.specs.Parts.{Parts}
 use Rattle.ix_model.specs.Planned.{IsPlanned}
-use Rattle.ix_model.specs.Slots.{sym_after}
 use Rattle.ix_model.specs.Closed as closed
 use Rattle.ix_model.proofs.ClosedWithin.{desc_within, edge_within, part_within}
 use Rattle.ix_model.proofs.SlotReaders.{next_reads}
@@ -18,16 +16,11 @@ use Rattle.ix_cluster.specs.Steps.{edges_in, end_answer}
 use Rattle.ix_cluster.proofs.Members.{none_has}
 use Rattle.ix_closure.specs.declared.owed.Owed.{Owed}
 use Rattle.ix_closure.specs.declared.owed.Owed.TheVariants.{Claim, Edge, End, Arrive}
-use Rattle.ix_closure.specs.Balance.{IsBalanced}
-use Rattle.ix_closure.specs.Due.{IsRecorded}
 use Rattle.ix_closure.specs.Follows.{fact_of}
 use Rattle.ix_closure.specs.Ready.{HasFurther, HasSlot, IsReady}
-use Rattle.ix_closure.specs.Seen.{State}
-use Rattle.ix_closure.proofs.DueClosed.{due_closed}
 use Rattle.ix_closure.proofs.ClusterLists.{edges_from}
 use Rattle.ix_closure.proofs.DueCauses.{edge_next}
 use Rattle.ix_closure.proofs.ListMembers.{all_have}
-use Rattle.ix_closure.proofs.RecordedFacts.{recorded_closed, recorded_by}
 
 module _ (plan : Parts) (planned : IsPlanned plan) where
   edge_further : (r k s l : ℕ) → closed.Edge plan r k s l → HasFurther plan s

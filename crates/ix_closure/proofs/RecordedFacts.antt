@@ -1,5 +1,5 @@
 -- What several banks have recorded, and how a step of one of them changes it.
-use Rattle.std.proofs.Common.{◌≡◌, ℕ, ◌<◌, ◌≤◌, List, Contains, length, Some, slice_get, slice_set, refl, sym, ap, ◌∙◌, subst, ◌⊎◌, inl, inr, arith}
+use Rattle.std.proofs.Common.{◌≡◌, ℕ, ◌<◌, ◌≤◌, List, Contains, length, Some, slice_get, slice_set, sym, ap, ◌∙◌, subst, ◌⊎◌, inl, inr}
 use Rattle.std.proofs.lemmas.Bool.{cases_eq}
 use Rattle.std.proofs.lemmas.List.{length-set}
 use Rattle.ix_model.specs.Parts.{Parts}
@@ -50,27 +50,27 @@ module _ (plan : Parts) (banks : List Bank) (sound : AreSound plan banks) where
       some = subst (λ n. 0 < n) (sym (length-set banks m new)) sound.some;
       few = subst (λ n. n ≤ 64) (sym (length-set banks m new)) sound.few;
       each = λ n b e. subst (λ count. IsSound plan count n b) (sym (length-set banks m new)) (elim (set_from banks m n new b e) [
-          inl h ↦ subst (λ i. IsSound plan (length banks) i b) (sym h.0) (subst (IsSound plan (length banks) m) h.1 sound_new)
+        | inl h ↦ subst (λ i. IsSound plan (length banks) i b) (sym h.0) (subst (IsSound plan (length banks) m) h.1 sound_new)
         | inr h ↦ sound.each n b h.1
-        ]);
+      ]);
     }
 
     grows_at : (f : Fact) (n : ℕ) (b : Bank) → slice_get banks n ≡ Some b → Contains b.log f → IsRecorded (slice_set banks m new) f
     grows_at f n b e h = elim (cases_eq n m) [
-        inl w ↦
+      | inl w ↦
           let same : b ≡ bank = cc (e, ap (slice_get banks) w, there) in
           recorded_by (slice_set banks m new) m new f (set_there banks m bank new there) (grown f (subst (λ (c : Bank). Contains c.log f) same h))
       | inr w ↦ recorded_by (slice_set banks m new) n b f (set_other banks m n new b w e) h
-      ]
+    ]
 
     pub set_moves : Moves (λ f. home_of plan (length banks) f ≡ m) (IsRecorded banks) (IsRecorded (slice_set banks m new)) bank.log new.log
     set_moves = record {
       grows = λ f h. let p = recorded_in banks f h in grows_at f p.0 p.1 p.2 p.3;
       made = λ f h. recorded_by (slice_set banks m new) m new f (set_there banks m bank new there) h;
       from = λ f h. let p = recorded_in (slice_set banks m new) f h in elim (set_from banks m p.0 new p.1 p.2) [
-          inl w ↦ inr (subst (λ (b : Bank). Contains b.log f) (sym w.1) p.3)
+        | inl w ↦ inr (subst (λ (b : Bank). Contains b.log f) (sym w.1) p.3)
         | inr w ↦ inl (recorded_by banks p.0 p.1 f w.1 p.3)
-        ];
+      ];
       back = λ f h. recorded_by banks m bank f there h;
       here = λ f mine h.
           let p = recorded_home f h in

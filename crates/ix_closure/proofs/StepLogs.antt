@@ -1,5 +1,5 @@
 -- What a log has after a step, and what is recorded then.
-use Rattle.std.proofs.Common.{◌≡◌, Bool, true, false, cond, List, Contains, sym, ap, ◌∙◌, subst, ◌⊎◌, inl, inr, true≢false}
+use Rattle.std.proofs.Common.{◌≡◌, Bool, true, false, cond, List, Contains, sym, ◌∙◌, subst, ◌⊎◌, inl, inr, true≢false}
 use Rattle.std.proofs.lemmas.Bool.{false_from_ne_true}
 use Rattle.ix_model.specs.Parts.{Parts}
 use Rattle.ix_cluster.specs.declared.fact.Fact.{Fact}

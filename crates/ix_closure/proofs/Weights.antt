@@ -1,11 +1,10 @@
 -- How many steps facts can have made owed, as facts are recorded.
-use Rattle.std.proofs.Common.{◌≡◌, ℕ, ◌+◌, ◌≤◌, Bool, true, false, cond, List, [], ◌∷◌, ◌++◌, count_by, Some, slice_get, slice_set, refl, arith}
+use Rattle.std.proofs.Common.{◌≡◌, ℕ, ◌+◌, ◌≤◌, Bool, true, false, List, [], ◌∷◌, ◌++◌, count_by, Some, slice_get, slice_set, arith}
 use Rattle.std.specs.List.{sum_by}
 use Rattle.std.proofs.lemmas.List.Sums.{sum_by-cons}
 use Rattle.ix_cluster.specs.declared.fact.Fact.{Fact}
 use Rattle.ix_cluster.specs.declared.fact.Fact.TheVariants.{Claim}
 use Rattle.ix_cluster.specs.Banks.{is_descriptor, facts_of}
-use Rattle.ix_cluster.specs.Facts.{has, put}
 use Rattle.ix_cluster.specs.Handed.{meets, pair_count}
 use Rattle.ix_cluster.specs.Seen.{Bank}
 use Rattle.ix_closure.proofs.ListCounts.{count_append, sum_set}

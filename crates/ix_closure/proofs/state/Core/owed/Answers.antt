@@ -1,4 +1,4 @@
-use Rattle.std.proofs.Common.{◌≡◌, ◌∙◌, sym, ap, subst, length, rules}
+use Rattle.std.proofs.Common.{subst, rules}
 use Rattle.ix_cluster.specs.Banks.{facts_of}
 use Rattle.ix_closure.specs.Closure.{IsClosure}
 use Rattle.ix_closure.specs.Seen.{Core}
