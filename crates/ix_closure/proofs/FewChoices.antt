@@ -27,12 +27,13 @@ use Rattle.ix_closure.proofs.FirstSlots.{first_of, firsts_once}
 use Rattle.ix_closure.proofs.ClosureWeights.{weight_sound}
 use Rattle.ix_closure.proofs.StepWeights.{IsFresh, descriptor_call, step_paid}
 use Rattle.ix_closure.proofs.RecordedFacts.{recorded_by, recorded_home}
+use Rattle.ix_closure.proofs.StepLogs.{has_none, has_not}
 use Rattle.ix_closure.proofs.Weights.{weight_in, weight_set}
 
 module _ (plan : Parts) (planned : IsPlanned plan) where
   -- in a tidy state no bank has begun an alternative of a rule that is not called
   tidy_fresh : (state : State) → IsTidy plan state → (m : ℕ) (bank : Bank) → slice_get state.banks m ≡ Some bank → IsFresh plan bank.log
-  tidy_fresh state tidy m bank there r k none s h = by (has bank.log (fact.Desc s k k)) refl
+  tidy_fresh state tidy m bank there r k none s h = has_not bank.log (fact.Desc s k k) (λ d. has_none bank.log (fact.Called r k) none (here d))
     where
       first : IsFirst plan s r
       first = first_of plan planned r s h
@@ -44,10 +45,6 @@ module _ (plan : Parts) (planned : IsPlanned plan) where
           let home_is : home r k (length state.banks) ≡ m = ap (λ (n : ℕ). home n k (length state.banks)) (sym (first_reads plan s r first).1) ∙ (tidy.balanced.sound.each m bank there).at_home (fact.Desc s k k) d in
           let same : p.0 ≡ bank = cc (p.1, home_is, there) in
           subst (λ (b : Bank). Contains b.log (fact.Called r k)) same p.2
-
-      by : (b : Bool) → has bank.log (fact.Desc s k k) ≡ b → has bank.log (fact.Desc s k k) ≡ false
-      by false e = e
-      by true e = absurd (true≢false (sym (has-Contains bank.log (fact.Called r k) (here (Contains-has bank.log (fact.Desc s k k) e))) ∙ none))
 
   -- an event adds as much weight as it adds owed steps, and one for itself
   pub event_paid : (old new : State) (n : ℕ) → IsTidy plan old → Event plan old n new → 1 + length new.owed + weight_in old.banks ≤ length old.owed + weight_in new.banks

@@ -49,7 +49,7 @@ module _ (plan : Parts) (planned : IsPlanned plan) (r : ℕ) where
       count = length (lines_at plan.rules r)
 
       stands : (a : ℕ) → Contains (range_with_len 0 count) a → IsSlot plan (first_slot plan r a) r a 0
-      stands a h = first_stands a (omega (arith, range_within 0 count a h))
+      stands a h = first_stands a (omega (arith, (range_within 0 count a h).1))
 
       same : (a b : ℕ) → Contains (range_with_len 0 count) a → Contains (range_with_len 0 count) b → first_slot plan r a ≡ first_slot plan r b → a ≡ b
       same a b h i e = (same_slot plan (first_slot plan r b) r a 0 r b 0 (subst (λ (n : ℕ). IsSlot plan n r a 0) e (stands a h)) (stands b i)).1

@@ -1,9 +1,6 @@
 -- A step records a fact, or fewer steps are owed behind it.
 use Rattle.std.proofs.Common.{◌≡◌, ℕ, ◌+◌, ◌-◌, ◌*◌, ◌≤◌, ◌<◌, ◌^◌, Bool, true, false, cond, not, List, [], ◌++◌, length, append-nil, map, remove, Some, slice_get, slice_set, Contains, refl, ap, ◌∙◌, ◌⊎◌, inl, inr, arith}
-use Rattle.std.proofs.Math.Nat.{mul-le-mul_right}
-use Rattle.std.proofs.lemmas.List.Concat.{length-flat_map}
 use Rattle.std.proofs.lemmas.List.Edits.{length-remove}
-use Rattle.std.proofs.lemmas.List.Sums.{sum_by-le}
 use Rattle.std.proofs.lemmas.Option.{slice_get_within}
 use Rattle.ix_model.specs.Parts.{Parts}
 use Rattle.ix_cluster.specs.declared.answers.Arrived.TheVariants.{Fresh, Known}
@@ -15,7 +12,6 @@ use Rattle.ix_cluster.specs.Facts.{has, put}
 use Rattle.ix_cluster.specs.Firsts.{firsts_of}
 use Rattle.ix_cluster.specs.Lists.{cluster}
 use Rattle.ix_cluster.specs.Seen.{Bank}
-use Rattle.ix_cluster.specs.Sound.{AreSound}
 use Rattle.ix_cluster.specs.Steps.{after_call, edges_in, ends_in}
 use Rattle.ix_cluster.proofs.Listing.{has-put_other, has-call_edge}
 use Rattle.ix_closure.specs.declared.owed.Owed.{Owed}
@@ -25,7 +21,6 @@ use Rattle.ix_closure.specs.Follows.{arrival, claims_at, claim_of, FollowsClaim,
 use Rattle.ix_closure.specs.Seen.{State}
 use Rattle.ix_closure.proofs.ListCounts.{count_all}
 use Rattle.ix_closure.proofs.LogCounts.{count_put, count_put_new, count_call, count_after, count_set}
-use Rattle.ix_closure.proofs.ListMembers.{all_have, place_in}
 
 put_longer : (log : List Fact) (f : Fact) → length log ≤ length (put log f)
 put_longer log f = omega (arith, count_all log, count_all (put log f), count_put (λ _. true) log f)
@@ -72,19 +67,6 @@ facts_set : (banks : List Bank) (m : ℕ) (old new : Bank) → slice_get banks m
 facts_set banks m old new there =
     omega (arith, count_all (facts_of banks), count_all (facts_of (slice_set banks m new)), count_all old.log, count_all new.log, count_set (λ _. true) banks m old new there)
 
--- sound banks have fewer facts than any machine has memory for
-pub few_facts : (plan : Parts) (banks : List Bank) → AreSound plan banks → length (facts_of banks) ≤ 2 ^ 63
-few_facts plan banks sound =
-    omega (
-      arith,
-      length-flat_map (λ (bank : Bank). bank.log) banks,
-      sum_by-le (λ (bank : Bank). length bank.log) (2 ^ 57) banks (all_have (λ (bank : Bank). length bank.log ≤ 2 ^ 57) banks few),
-      sound.few,
-    )
-  where
-    few : (bank : Bank) → Contains banks bank → length bank.log ≤ 2 ^ 57
-    few bank there = let p = place_in banks bank there in omega (arith, (sound.each p.0 bank p.1).bounded)
-
 -- an event records a fact, or fewer steps are owed behind it
 pub event_shrinks : (plan : Parts) (old new : State) (n : ℕ) → Event plan old n new → (length (facts_of old.banks) + 1 ≤ length (facts_of new.banks)) ⊎ ((length (facts_of old.banks) ≤ length (facts_of new.banks)) × (length new.owed + 1 ≡ length old.owed))
 event_shrinks plan old new n event =
@@ -94,14 +76,3 @@ event_shrinks plan old new n event =
       | inl h ↦ inl (omega (arith, all, set, h))
       | inr h ↦ inr (omega (arith, all, set, after_longer plan event.bank.log event.step), omega (arith, ap length event.owed, ap (λ (z : List Owed). length (remove old.owed n ++ z)) h, ap length (append-nil (remove old.owed n)), length-remove old.owed n (slice_get_within old.owed n event.step event.taken)))
     ]
-
--- the room that is left for facts counts most, and then the number of owed steps
-pub falls : (top w l l' q q' : ℕ) → l' ≤ top → q' < w → (l + 1 ≤ l') ⊎ ((l ≤ l') × (q' + 1 ≡ q)) → (top - l') * w + q' < (top - l) * w + q
-falls top w l l' q q' h small (inl more) =
-    let d : (top - l') + 1 ≤ top - l = omega arith in
-    let m : ((top - l') + 1) * w ≤ (top - l) * w = mul-le-mul_right w d in
-    grind arith
-falls top w l l' q q' h small (inr fewer) =
-    let d : top - l' ≤ top - l = omega (arith, fewer.0) in
-    let m : (top - l') * w ≤ (top - l) * w = mul-le-mul_right w d in
-    omega (arith, fewer.1)
