@@ -16,7 +16,7 @@ use Rattle.ix_closure.specs.Follows.{fact_of}
 use Rattle.ix_closure.specs.Ready.{HasSlot, IsReady, IsReplaced}
 use Rattle.ix_closure.specs.Seen.{State}
 use Rattle.ix_closure.proofs.EventBalance.{event_balanced}
-use Rattle.ix_closure.proofs.DueClosed.{due_closed}
+use Rattle.ix_closure.proofs.DueClosed.{owed_closed}
 use Rattle.ix_closure.proofs.ListMembers.{nth_has}
 use Rattle.ix_closure.proofs.Readiness.{step_slot, step_ready}
 use Rattle.ix_closure.proofs.RecordedFacts.{recorded_closed, recorded_by}
@@ -28,7 +28,7 @@ module _ (plan : Parts) (planned : IsPlanned plan) (old : State) (balanced : IsB
   taken = slice_get_read old.owed (length old.owed) n step refl within at
 
   closed : IsInClosed plan (fact_of step)
-  closed = due_closed plan (IsRecorded old.banks) (recorded_closed plan old.banks balanced.sound) step (balanced.caused step (nth_has old.owed n step taken))
+  closed = owed_closed plan old balanced step (nth_has old.owed n step taken)
 
   -- its home can be told
   pub has_slot : HasSlot plan step

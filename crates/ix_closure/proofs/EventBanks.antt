@@ -11,7 +11,7 @@ use Rattle.ix_closure.specs.Events.{Event, log_after, bank_after, home_for}
 use Rattle.ix_closure.specs.Follows.{fact_of}
 use Rattle.ix_closure.specs.Seen.{State}
 use Rattle.ix_closure.proofs.BankSound.{bank_sound}
-use Rattle.ix_closure.proofs.DueClosed.{due_closed}
+use Rattle.ix_closure.proofs.DueClosed.{owed_closed}
 use Rattle.ix_closure.proofs.StepLogs.{log_keeps}
 use Rattle.ix_closure.proofs.ListMembers.{nth_has}
 use Rattle.ix_closure.proofs.RecordedFacts.{Moves, recorded_closed, set_sound, set_moves}
@@ -22,7 +22,7 @@ module _ (plan : Parts) (planned : IsPlanned plan) (old new : State) (n : ℕ) (
   step_due = balanced.caused event.step (nth_has old.owed n event.step event.taken)
 
   pub step_closed : IsInClosed plan (fact_of event.step)
-  step_closed = due_closed plan (IsRecorded old.banks) (recorded_closed plan old.banks balanced.sound) event.step step_due
+  step_closed = owed_closed plan old balanced event.step (nth_has old.owed n event.step event.taken)
 
   -- the bank that does it stays sound
   new_sound : IsSound plan (length old.banks) (home_for plan (length old.banks) event.step) (bank_after plan event.bank event.step)

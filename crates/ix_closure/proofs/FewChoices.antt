@@ -26,7 +26,7 @@ use Rattle.ix_closure.specs.Tidy.{IsTidy}
 use Rattle.ix_closure.proofs.FirstSlots.{first_of, firsts_once}
 use Rattle.ix_closure.proofs.ClosureWeights.{weight_sound}
 use Rattle.ix_closure.proofs.StepWeights.{IsFresh, descriptor_call, step_paid}
-use Rattle.ix_closure.proofs.RecordedFacts.{recorded_by, recorded_home}
+use Rattle.ix_closure.proofs.RecordedFacts.{recorded_by, recorded_here}
 use Rattle.ix_closure.proofs.StepLogs.{has_none, has_not}
 use Rattle.ix_closure.proofs.Weights.{weight_in, weight_set}
 
@@ -41,10 +41,8 @@ module _ (plan : Parts) (planned : IsPlanned plan) where
       here : Contains bank.log (fact.Desc s k k) → Contains bank.log (fact.Called r k)
       here d =
           let called = tidy.first_descs s k k r (recorded_by state.banks m bank (fact.Desc s k k) there d) first in
-          let p = recorded_home plan state.banks tidy.balanced.sound (fact.Called r k) called in
           let home_is : home r k (length state.banks) ≡ m = ap (λ (n : ℕ). home n k (length state.banks)) (sym (first_reads plan s r first).1) ∙ (tidy.balanced.sound.each m bank there).at_home (fact.Desc s k k) d in
-          let same : p.0 ≡ bank = cc (p.1, home_is, there) in
-          subst (λ (b : Bank). Contains b.log (fact.Called r k)) same p.2
+          recorded_here plan state.banks tidy.balanced.sound m bank there (fact.Called r k) home_is called
 
   -- an event adds as much weight as it adds owed steps, and one for itself
   pub event_paid : (old new : State) (n : ℕ) → IsTidy plan old → Event plan old n new → 1 + length new.owed + weight_in old.banks ≤ length old.owed + weight_in new.banks

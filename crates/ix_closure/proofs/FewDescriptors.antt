@@ -2,10 +2,8 @@
 use Rattle.std.proofs.Common.{◌≡◌, ℕ, ◌+◌, ◌*◌, ◌≤◌, ◌<◌, true, List, length, map, get_or, Contains, count_by, sym, subst, arith}
 use Rattle.std.specs.List.{IsDistinct, flat_map, range_with_len}
 use Rattle.std.proofs.lemmas.List.{length-map}
-use Rattle.std.proofs.lemmas.List.Concat.{length-flat_map}
-use Rattle.std.proofs.lemmas.List.Elements.{All-from_get_or}
 use Rattle.std.proofs.lemmas.List.FromFn.{length-range_with_len}
-use Rattle.std.proofs.lemmas.List.Sums.{sum_by-le, count_by-le-length}
+use Rattle.std.proofs.lemmas.List.Sums.{count_by-le-length}
 use Rattle.ix_model.specs.Parts.{Parts}
 use Rattle.ix_model.specs.Planned.{IsPlanned}
 use Rattle.ix_model.proofs.ClosedWithin.{desc_within}
@@ -15,6 +13,7 @@ use Rattle.ix_cluster.specs.Banks.{is_descriptor}
 use Rattle.ix_cluster.specs.ClosedFacts.{IsInClosed}
 use Rattle.ix_cluster.specs.Facts.{same_fact}
 use Rattle.ix_closure.proofs.LogCounts.{tallied}
+use Rattle.ix_closure.proofs.ListCounts.{length_flat}
 use Rattle.ix_closure.proofs.ListMembers.{map_has, flat_has}
 use Rattle.ix_closure.proofs.Ranges.{range_has}
 use Rattle.ix_closure.proofs.Sublists.{fewer}
@@ -23,8 +22,7 @@ use Rattle.ix_closure.proofs.Sublists.{fewer}
 length_each : (f : ℕ → List Fact) (m n : ℕ) → ((k : ℕ) → length (f k) ≤ m) → length (flat_map f (range_with_len 0 n)) ≤ n * m
 length_each f m n each =
     subst (λ (a : ℕ). length (flat_map f (range_with_len 0 n)) ≤ a * m) (length-range_with_len 0 n)
-    (subst (λ (a : ℕ). a ≤ length (range_with_len 0 n) * m) (sym (length-flat_map f (range_with_len 0 n)))
-    (sum_by-le (λ k. length (f k)) m (range_with_len 0 n) (All-from_get_or (λ k. length (f k) ≤ m) (range_with_len 0 n) 0 (λ i l. each (get_or (range_with_len 0 n) i 0)))))
+    (length_flat f m (range_with_len 0 n) (λ k _. each k))
 
 -- the descriptors of a slot and a left end with a position below n, those of a slot with both ends below n, and those of
 -- the slots below a number

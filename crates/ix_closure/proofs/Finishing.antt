@@ -1,8 +1,6 @@
 -- Each step of a core that is being finished leaves less to do.
 use Rattle.std.proofs.Common.{◌≡◌, ℕ, ◌+◌, ◌-◌, ◌*◌, ◌≤◌, ◌<◌, ◌^◌, false, List, [], ◌∷◌, ◌++◌, length, Contains, Result, Ok, Err, OnOk, is_err, ◌⊎◌, inl, inr, arith}
 use Rattle.std.proofs.Math.Nat.{mul-le-mul_right}
-use Rattle.std.proofs.lemmas.List.Concat.{length-flat_map}
-use Rattle.std.proofs.lemmas.List.Sums.{sum_by-le}
 use Rattle.ix_model.specs.Parts.{Parts}
 use Rattle.ix_model.specs.Planned.{IsPlanned}
 use Rattle.ix_cluster.specs.Banks.{facts_of}
@@ -13,7 +11,8 @@ use Rattle.ix_closure.specs.Events.{Event}
 use Rattle.ix_closure.specs.Runs.{IsReached, goes_on}
 use Rattle.ix_closure.specs.Seen.{State}
 use Rattle.ix_closure.proofs.EventBanks.{event_sound}
-use Rattle.ix_closure.proofs.ListMembers.{all_have, place_in}
+use Rattle.ix_closure.proofs.ListCounts.{length_flat}
+use Rattle.ix_closure.proofs.ListMembers.{place_in}
 use Rattle.ix_closure.proofs.Progress.{event_shrinks}
 
 pub from_on_ok : {T E P : Type 0} (r : Result T E) → is_err r ≡ false → OnOk r P → P
@@ -22,13 +21,7 @@ from_on_ok (Err y) e p = absurd (cc)
 
 -- sound banks have fewer facts than any machine has memory for
 few_facts : (plan : Parts) (banks : List Bank) → AreSound plan banks → length (facts_of banks) ≤ 2 ^ 63
-few_facts plan banks sound =
-    omega (
-      arith,
-      length-flat_map (λ (bank : Bank). bank.log) banks,
-      sum_by-le (λ (bank : Bank). length bank.log) (2 ^ 57) banks (all_have (λ (bank : Bank). length bank.log ≤ 2 ^ 57) banks few),
-      sound.few,
-    )
+few_facts plan banks sound = omega (arith, length_flat (λ (bank : Bank). bank.log) (2 ^ 57) banks few, sound.few)
   where
     few : (bank : Bank) → Contains banks bank → length bank.log ≤ 2 ^ 57
     few bank there = let p = place_in banks bank there in omega (arith, (sound.each p.0 bank p.1).bounded)

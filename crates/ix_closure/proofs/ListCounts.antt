@@ -1,10 +1,12 @@
 -- How many elements a list has, and how many of them pass a test.
-use Rattle.std.proofs.Common.{◌≡◌, ℕ, ◌+◌, ◌≤◌, Bool, true, false, cond, List, [], ◌∷◌, ◌++◌, length, Contains, remove, count_by, Option, None, Some, slice_get, slice_set, refl, ap, inl, inr, arith}
-use Rattle.std.specs.List.{sum_by, filter_map, cons_option}
+use Rattle.std.proofs.Common.{◌≡◌, ℕ, ◌+◌, ◌*◌, ◌≤◌, Bool, true, false, cond, List, [], ◌∷◌, ◌++◌, length, Contains, remove, count_by, Option, None, Some, slice_get, slice_set, refl, sym, ap, subst, inl, inr, arith}
+use Rattle.std.specs.List.{sum_by, filter_map, cons_option, flat_map}
+use Rattle.std.proofs.lemmas.List.Concat.{length-flat_map}
 use Rattle.std.proofs.lemmas.List.Recursion.{is_count_by}
-use Rattle.std.proofs.lemmas.List.Sums.{sum_by-cons, sum_by-append, sum_by-remove, sum_by-set}
+use Rattle.std.proofs.lemmas.List.Sums.{sum_by-cons, sum_by-append, sum_by-remove, sum_by-set, sum_by-le}
 use Rattle.std.proofs.lemmas.Option.{slice_get_within, get_or_from_slice_get}
 use Rattle.ix_cluster.proofs.Members.{either_has, none_has, rest_has, first_has}
+use Rattle.ix_closure.proofs.ListMembers.{all_have}
 
 module _ {X : Type 0} (p : X → Bool) where
   pub count_cons : (x : X) (xs : List X) → count_by p (x ∷ xs) ≡ cond (p x) 1 0 + count_by p xs
@@ -50,3 +52,7 @@ module _ {X Y : Type 0} where
       by : (o : Option Y) → length (filter_map f xs) ≤ length xs → length (cons_option o (filter_map f xs)) ≤ length (x ∷ xs)
       by None h = omega (arith, h)
       by (Some y) h = omega (arith, h)
+
+  -- lists of at most m elements for each
+  pub length_flat : (f : X → List Y) (m : ℕ) (xs : List X) → ((x : X) → Contains xs x → length (f x) ≤ m) → length (flat_map f xs) ≤ length xs * m
+  length_flat f m xs few = subst (λ n. n ≤ length xs * m) (sym (length-flat_map f xs)) (sum_by-le (λ x. length (f x)) m xs (all_have (λ x. length (f x) ≤ m) xs few))

@@ -34,10 +34,16 @@ recorded_in banks f h =
 
 module _ (plan : Parts) (banks : List Bank) (sound : AreSound plan banks) where
   -- a recorded fact stands in the bank that is its home
-  pub recorded_home : (f : Fact) → IsRecorded banks f → (bank : Bank) × (slice_get banks (home_of plan (length banks) f) ≡ Some bank) × Contains bank.log f
+  recorded_home : (f : Fact) → IsRecorded banks f → (bank : Bank) × (slice_get banks (home_of plan (length banks) f) ≡ Some bank) × Contains bank.log f
   recorded_home f h =
       let p = recorded_in banks f h in
       (p.1, ap (slice_get banks) ((sound.each p.0 p.1 p.2).at_home f p.3) ∙ p.2, p.3)
+
+  pub recorded_here : (m : ℕ) (bank : Bank) → slice_get banks m ≡ Some bank → (f : Fact) → home_of plan (length banks) f ≡ m → IsRecorded banks f → Contains bank.log f
+  recorded_here m bank there f home h =
+      let p = recorded_home f h in
+      let same : p.0 ≡ bank = cc (p.1, ap (slice_get banks) home, there) in
+      subst (λ (b : Bank). Contains b.log f) same p.2
 
   -- and is in the closure
   pub recorded_closed : (f : Fact) → IsRecorded banks f → IsInClosed plan f
@@ -72,8 +78,5 @@ module _ (plan : Parts) (banks : List Bank) (sound : AreSound plan banks) where
         | inr w ↦ inl (recorded_by banks p.0 p.1 f w.1 p.3)
       ];
       back = λ f h. recorded_by banks m bank f there h;
-      here = λ f mine h.
-          let p = recorded_home f h in
-          let same : p.0 ≡ bank = cc (p.1, ap (slice_get banks) mine, there) in
-          subst (λ (b : Bank). Contains b.log f) same p.2;
+      here = λ f mine h. recorded_here m bank there f mine h;
     }
