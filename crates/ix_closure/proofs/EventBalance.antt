@@ -17,18 +17,18 @@ use Rattle.ix_closure.proofs.BroughtSteps.{Brings, claim_brings, end_brings, arr
 use Rattle.ix_closure.proofs.ListMembers.{left_was, taken_or_left}
 use Rattle.ix_closure.proofs.NewlyDue.{due_grows}
 use Rattle.ix_closure.proofs.RecordedFacts.{Moves, recorded_closed}
-use Rattle.ix_closure.proofs.EventBanks.{step_due, step_closed, event_sound, event_moves}
+use Rattle.ix_closure.proofs.EventBanks.{SharesHome, HomeMoves, step_due, step_closed, event_sound, event_moves}
 
 -- each kind of step brings what becomes due by it
 pub step_brings : (plan : Parts) → IsPlanned plan → (count : ℕ) (Before After : Fact → Type 0) (log : List Fact) → ((f : Fact) → Before f → IsInClosed plan f) → (o : Owed) (more : List Owed) → IsDue plan Before o → IsInClosed plan (fact_of o)
-    → Moves (λ f. home_of plan count f ≡ home_for plan count o) Before After log (log_after plan log o) → Follows plan log o more → Brings plan Before After o more
-step_brings plan planned count Before After log true_fact (Claim s l p) more due closed moves follows = claim_brings plan planned (λ f. home_of plan count f ≡ home_for plan count (Claim s l p)) Before After log true_fact s l p more due refl moves follows
-step_brings plan planned count Before After log true_fact (Edge r k s l) more due closed moves follows = edge_brings plan planned (λ f. home_of plan count f ≡ home_for plan count (Edge r k s l)) Before After log true_fact r k s l (λ e. refl) more closed moves follows
-step_brings plan planned count Before After log true_fact (End r k e) more due closed moves follows = end_brings plan planned (λ f. home_of plan count f ≡ home_for plan count (End r k e)) Before After log true_fact r k e (λ s l. refl) more moves follows
-step_brings plan planned count Before After log true_fact (Arrive sub) more due closed moves follows = arrival_brings plan planned (λ f. home_of plan count f ≡ home_for plan count (Arrive sub)) Before After log true_fact sub more moves follows
+    → Moves (SharesHome plan count o) Before After log (log_after plan log o) → Follows plan log o more → Brings plan Before After o more
+step_brings plan planned count Before After log true_fact (Claim s l p) more due closed moves follows = claim_brings plan planned (SharesHome plan count (Claim s l p)) Before After log true_fact s l p more due refl moves follows
+step_brings plan planned count Before After log true_fact (Edge r k s l) more due closed moves follows = edge_brings plan planned (SharesHome plan count (Edge r k s l)) Before After log true_fact r k s l (λ e. refl) more closed moves follows
+step_brings plan planned count Before After log true_fact (End r k e) more due closed moves follows = end_brings plan planned (SharesHome plan count (End r k e)) Before After log true_fact r k e (λ s l. refl) more moves follows
+step_brings plan planned count Before After log true_fact (Arrive sub) more due closed moves follows = arrival_brings plan planned (SharesHome plan count (Arrive sub)) Before After log true_fact sub more moves follows
 
 module _ (plan : Parts) (planned : IsPlanned plan) (old new : State) (n : ℕ) (balanced : IsBalanced plan old) (event : Event plan old n new) where
-  moves : Moves (λ f. home_of plan (length old.banks) f ≡ home_for plan (length old.banks) event.step) (IsRecorded old.banks) (IsRecorded new.banks) event.bank.log (log_after plan event.bank.log event.step)
+  moves : HomeMoves plan old new event.bank.log event.step
   moves = event_moves plan planned old new n balanced event
 
   pub event_brings : Brings plan (IsRecorded old.banks) (IsRecorded new.banks) event.step event.more

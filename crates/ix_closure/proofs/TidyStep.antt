@@ -30,7 +30,7 @@ use Rattle.ix_closure.proofs.LogCounts.{count_set, count_after}
 use Rattle.ix_closure.proofs.StepLogs.{IsBeside, newly_recorded}
 use Rattle.ix_closure.proofs.ListMembers.{nth_has, left_was}
 use Rattle.ix_closure.proofs.RecordedFacts.{Moves}
-use Rattle.ix_closure.proofs.EventBanks.{step_due, step_closed, event_moves}
+use Rattle.ix_closure.proofs.EventBanks.{SharesHome, HomeMoves, step_due, step_closed, event_moves}
 use Rattle.ix_closure.proofs.TidyCauses.{HasCause, IsSingle, IsKnown, tidy_by, tidy_caused, tidy_once, cause_grows}
 use Rattle.ix_closure.proofs.OwedTimes.{times_some, times_none, times_append, times_taken, times_left, fact_of_same}
 
@@ -41,7 +41,7 @@ pub record IsDone (plan : Parts) (old new : State) (n : ℕ) (log : List Fact) (
   pub closed : IsInClosed plan (fact_of step)
   pub follows : Follows plan log step more
   pub owed : new.owed ≡ remove old.owed n ++ more
-  pub moves : Moves (λ f. home_of plan (length old.banks) f ≡ home_for plan (length old.banks) step) (IsRecorded old.banks) (IsRecorded new.banks) log (log_after plan log step)
+  pub moves : HomeMoves plan old new log step
   pub once : IsDistinct same_fact log
   pub counted : (p : Fact → Bool) → count_by p (facts_of new.banks) + count_by p log ≡ count_by p (facts_of old.banks) + count_by p (log_after plan log step)
 
@@ -67,7 +67,7 @@ module _ (plan : Parts) (planned : IsPlanned plan) (old new : State) (n : ℕ) (
 
   -- what is recorded now was recorded before, or it is the step's own fact, or one beside it
   newly : (f : Fact) → IsRecorded new.banks f → IsRecorded old.banks f ⊎ ((fact_of step ≡ f) ⊎ IsBeside plan log step f)
-  newly f h = newly_recorded plan (λ f. home_of plan (length old.banks) f ≡ home_for plan (length old.banks) step) (IsRecorded old.banks) (IsRecorded new.banks) log step done.moves f h
+  newly f h = newly_recorded plan (SharesHome plan (length old.banks) step) (IsRecorded old.banks) (IsRecorded new.banks) log step done.moves f h
 
   -- beside its own fact a step records none that a due step other than an end is to record
   beside_none : (o x : Owed) → IsSingle x → FollowsIn plan new.banks x → IsBeside plan log o (fact_of x) → ⊥
