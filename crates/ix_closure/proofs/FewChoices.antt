@@ -23,7 +23,7 @@ use Rattle.ix_closure.specs.Quantity.{step_bound}
 use Rattle.ix_closure.specs.Runs.{Run, rests, goes_on}
 use Rattle.ix_closure.specs.Seen.{State}
 use Rattle.ix_closure.specs.Tidy.{IsTidy}
-use Rattle.ix_closure.proofs.FirstSlots.{first_of, firsts_once}
+use Rattle.ix_closure.proofs.FirstSlots.{first_of}
 use Rattle.ix_closure.proofs.ClosureWeights.{weight_sound}
 use Rattle.ix_closure.proofs.StepWeights.{IsFresh, descriptor_call, step_paid}
 use Rattle.ix_closure.proofs.RecordedFacts.{recorded_by, recorded_here}
@@ -66,7 +66,7 @@ module _ (plan : Parts) (planned : IsPlanned plan) where
 
   -- the opening bank has a descriptor for each claim that is owed at the start
   opening_paid : length (claims_at 0 (firsts_of plan 0)) ≤ weight_in (opening plan 1)
-  opening_paid = omega (arith, length-map (firsts_of plan 0) (λ s. Claim s 0 0), descriptor_call plan 0 [] 0 refl (firsts_once plan planned 0) (λ s h. refl))
+  opening_paid = omega (arith, length-map (firsts_of plan 0) (λ s. Claim s 0 0), descriptor_call plan 0 planned [] 0 refl (λ s h. refl))
 
   module _ (first : State) (banks_open : first.banks ≡ opening plan 1) (owed_open : first.owed ≡ claims_at 0 (firsts_of plan 0)) (tidy : (c : List ℕ) (s : State) → Run plan first c s → IsTidy plan s) where
     -- as many steps as the list chose, and those that are owed, have made facts

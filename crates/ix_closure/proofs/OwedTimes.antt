@@ -49,8 +49,8 @@ pub times_left : (xs : List Owed) (n : ℕ) (y x : Owed) → slice_get xs n ≡ 
 times_left xs n y x e apart = omega (arith, count_remove (same_step x) xs n y e, ap {B = ℕ} (λ b. cond b 1 0) (same_step_false x y apart))
 
 -- a step that is owed alone is owed once
-pub times_one : (y x : Owed) → Contains (y ∷ []) x → times (y ∷ []) x ≡ 1
-times_one y x c = subst (λ z. times (y ∷ []) z ≡ 1) (one_has y x c) (omega (arith, ap {B = ℕ} (λ b. cond b 1 0) (same_step_refl y)))
+pub times_one : (x : Owed) → times (x ∷ []) x ≡ 1
+times_one x = omega (arith, ap {B = ℕ} (λ b. cond b 1 0) (same_step_refl x))
 
 -- where each step stands once it is owed once
 pub times_once : (xs : List Owed) (x : Owed) → IsOnceEach xs → Contains xs x → times xs x ≡ 1

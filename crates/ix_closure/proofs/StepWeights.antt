@@ -60,13 +60,13 @@ module _ (plan : Parts) (k : ℕ) where
       )
 
   -- a call of alternatives of which none is there adds a descriptor for each
-  pub descriptor_call : (log : List Fact) (r : ℕ) → has log (fact.Called r k) ≡ false → IsOnceEach (firsts_of plan r) → ((s : ℕ) → Contains (firsts_of plan r) s → has log (fact.Desc s k k) ≡ false) → count_by is_descriptor log + length (firsts_of plan r) ≤ count_by is_descriptor (after_call plan log r k)
-  descriptor_call log r none once fresh =
+  pub descriptor_call : IsPlanned plan → (log : List Fact) (r : ℕ) → has log (fact.Called r k) ≡ false → ((s : ℕ) → Contains (firsts_of plan r) s → has log (fact.Desc s k k) ≡ false) → count_by is_descriptor log + length (firsts_of plan r) ≤ count_by is_descriptor (after_call plan log r k)
+  descriptor_call planned log r none fresh =
       subst (λ b. count_by is_descriptor log + length (firsts_of plan r) ≤ count_by is_descriptor (cond b log (after_firsts plan k (firsts_of plan r) (put log (fact.Called r k))))) (sym none)
       (omega (
         arith,
         count_put is_descriptor log (fact.Called r k),
-        descriptor_firsts (firsts_of plan r) (put log (fact.Called r k)) once (λ s h. has-put_other log (fact.Called r k) (fact.Desc s k k) refl ∙ fresh s h),
+        descriptor_firsts (firsts_of plan r) (put log (fact.Called r k)) (firsts_once plan planned r) (λ s h. has-put_other log (fact.Called r k) (fact.Desc s k k) refl ∙ fresh s h),
       ))
 
 -- ---- the steps
@@ -141,7 +141,7 @@ module _ (plan : Parts) (planned : IsPlanned plan) (log : List Fact) (fresh : Is
       -- the claims of a cluster that is called now
       called : (c : Bool) → has log (fact.Called r k) ≡ c → length (cond (not c) (claims_at k (firsts_of plan r)) []) + count_by is_descriptor log ≤ count_by is_descriptor (after_call plan log r k)
       called true w = omega (arith, count_call is_descriptor plan k log r)
-      called false w = omega (arith, length-map (firsts_of plan r) (λ a. Claim a k k), descriptor_call plan k log r w (firsts_once plan planned r) (fresh r k w))
+      called false w = omega (arith, length-map (firsts_of plan r) (λ a. Claim a k k), descriptor_call plan k planned log r w (fresh r k w))
 
       by : (c : Bool) → has log (fact.Edge r k s l) ≡ c → more ≡ cond (cond c false (not (has log (fact.Called r k)))) (claims_at k (firsts_of plan r)) [] ++ map arrive (cond c [] (ends_in log (cluster r k))) → length more + weight log ≤ weight (cond c log (put (after_call plan log r k) (fact.Edge r k s l)))
       by true w none = omega (arith, ap length none)

@@ -1,6 +1,7 @@
 -- A list of facts, each once, that are all in another list: fewer of them pass a test, and they make fewer pairs.
 use Rattle.std.proofs.Common.{◌≡◌, ℕ, ◌+◌, ◌≤◌, Bool, true, false, cond, if◌then◌else◌, List, [], ◌∷◌, Contains, refl, sym, ap, ◌∙◌, subst, ◌⊎◌, inl, inr, arith, true≢false}
 use Rattle.std.specs.List.{IsDistinct}
+use Rattle.std.proofs.lemmas.Bool.{false_from_ne_true}
 use Rattle.std.proofs.lemmas.Bool.Decides.{nat_tests}
 use Rattle.std.proofs.lemmas.Map.Keys.{IsDistinct-tail}
 use Rattle.ix_cluster.specs.declared.cluster.Cluster.{Cluster}
@@ -81,11 +82,10 @@ module _ (p q : Fact → Bool) (g : Fact → Fact) (own : (a b : Fact) → p a �
   fewer_by (x ∷ xs) ys d each = by (p x) refl (λ zs. fewer_by xs zs (IsDistinct-tail same_fact x xs d))
     where
       left : p x ≡ true → (f : Fact) → Contains xs f → p f ≡ true → Contains (without (g x) ys) (g f)
-      left e f h w = without_has (g x) ys (g f) (other (same_fact (g x) (g f)) refl) (each f (rest_has x xs f h) w).0
-        where
-          other : (b : Bool) → same_fact (g x) (g f) ≡ b → same_fact (g x) (g f) ≡ false
-          other false o = o
-          other true o = absurd (true≢false (sym (same_fact-refl x) ∙ ap (same_fact x) (own x f e w (same_fact-true (g x) (g f) o)) ∙ distinct_apart same_fact x xs d f h))
+      left e f h w =
+          without_has (g x) ys (g f)
+          (false_from_ne_true (same_fact (g x) (g f)) (λ o. true≢false (sym (same_fact-refl x) ∙ ap (same_fact x) (own x f e w (same_fact-true (g x) (g f) o)) ∙ distinct_apart same_fact x xs d f h)))
+          (each f (rest_has x xs f h) w).0
 
       by : (b : Bool) → p x ≡ b → ((zs : List Fact) → ((f : Fact) → Contains xs f → p f ≡ true → Contains zs (g f) × (q (g f) ≡ true)) → tally p xs ≤ tally q zs) → cond b 1 0 + tally p xs ≤ tally q ys
       by false e rest = omega (arith, rest ys (λ f h w. each f (rest_has x xs f h) w))

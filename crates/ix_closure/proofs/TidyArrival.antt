@@ -21,8 +21,7 @@ use Rattle.ix_closure.proofs.DueCauses.{arrival_not_first}
 use Rattle.ix_closure.proofs.TidyKnown.{claim_known}
 use Rattle.ix_closure.proofs.StepLogs.{IsBeside, has_none}
 use Rattle.ix_closure.proofs.NewlyDue.{due_grows}
-use Rattle.ix_closure.proofs.TidyCauses.{HasCause, IsSingle, IsKnown}
-use Rattle.ix_closure.proofs.OwedTimes.{times_one}
+use Rattle.ix_closure.proofs.TidyCauses.{HasCause, IsSingle, IsKnown, IsBroughtOnce, brought_alone}
 
 module _ (plan : Parts) (planned : IsPlanned plan) (old new : State) (n : ℕ) (log : List Fact) (sub : Sub) (more : List Owed)
     (done : IsDone plan old new n log (Arrive sub) more) (tidy : IsTidy plan old) where
@@ -43,16 +42,12 @@ module _ (plan : Parts) (planned : IsPlanned plan) (old new : State) (n : ℕ) (
   claim_new e known = has_none log (fact.Desc sub.slot sub.left sub.right) e (done.moves.here (fact.Desc sub.slot sub.left sub.right) refl (claim_known plan planned old tidy.balanced sub.slot sub.left sub.right known))
 
   -- what it brings is owed once, and was not known
-  brought : (x : Owed) → IsSingle x → Contains more x → (times more x ≡ 1) × ¬ (IsKnown old x)
+  brought : (x : Owed) → IsSingle x → Contains more x → IsBroughtOnce old more x
   brought x single c = by (has log (fact.Desc sub.slot sub.left sub.right)) refl done.follows
     where
-      by : (b : Bool) → has log (fact.Desc sub.slot sub.left sub.right) ≡ b → more ≡ claim_of (cond b Known Fresh) sub → (times more x ≡ 1) × ¬ (IsKnown old x)
+      by : (b : Bool) → has log (fact.Desc sub.slot sub.left sub.right) ≡ b → more ≡ claim_of (cond b Known Fresh) sub → IsBroughtOnce old more x
       by true e w = absurd (none_has x (subst (λ steps. Contains steps x) w c))
-      by false e w =
-          let one = subst (λ steps. Contains steps x) w c in (
-            ap (λ steps. times steps x) w ∙ times_one (Claim sub.slot sub.left sub.right) x one,
-            λ known. claim_new e (subst (IsKnown old) (sym (one_has (Claim sub.slot sub.left sub.right) x one)) known),
-          )
+      by false e w = subst (λ steps. IsBroughtOnce old steps x) (sym w) (brought_alone old (Claim sub.slot sub.left sub.right) x (claim_new e) (subst (λ steps. Contains steps x) w c))
 
   -- it brings no end
   no_end : (r k e : ℕ) → ¬ (Contains more (End r k e))

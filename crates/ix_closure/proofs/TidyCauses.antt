@@ -1,11 +1,12 @@
 -- A state is tidy where each recorded fact has its cause and each owed step its number.
-use Rattle.std.proofs.Common.{ℕ, ◌≤◌, Contains, refl, sym, ◌∙◌, subst, ◌⊎◌, inl, inr}
+use Rattle.std.proofs.Common.{◌≡◌, ℕ, List, [], ◌∷◌, ◌≤◌, Contains, refl, sym, ◌∙◌, subst, ◌⊎◌, inl, inr}
 use Rattle.ix_model.specs.Parts.{Parts}
 use Rattle.ix_model.specs.Planned.{IsPlanned}
 use Rattle.ix_model.specs.SlotPlaces.{IsFirst}
 use Rattle.ix_cluster.specs.declared.fact.Fact.{Fact}
 use Rattle.ix_cluster.specs.declared.fact.Fact.TheVariants as fact
 use Rattle.ix_cluster.specs.Banks.{facts_of}
+use Rattle.ix_cluster.proofs.Members.{one_has}
 use Rattle.ix_cluster.proofs.Calls.{IsBegun}
 use Rattle.ix_cluster.specs.Firsts.{firsts_of}
 use Rattle.ix_cluster.proofs.Beginning.{ends_at_once}
@@ -20,6 +21,7 @@ use Rattle.ix_closure.specs.Seen.{State}
 use Rattle.ix_closure.specs.Tidy.{IsTidy, IsEmptyOfCalled, IsOwedOnce}
 use Rattle.ix_closure.proofs.FirstSlots.{first_of}
 use Rattle.ix_closure.proofs.NewlyDue.{due_grows}
+use Rattle.ix_closure.proofs.OwedTimes.{times_one}
 
 -- what must be recorded for the fact to be recorded
 abbrev pub HasCause : Parts → State → Fact → Type 0
@@ -39,6 +41,14 @@ IsSingle (End r k e) = ⊥
 -- the step is owed, or what it is to record is recorded
 abbrev pub IsKnown : State → Owed → Type 0
 IsKnown state x = Contains state.owed x ⊎ IsRecorded state.banks (fact_of x)
+
+-- the step is once among those that are brought, and was not known
+abbrev pub IsBroughtOnce : State → List Owed → Owed → Type 0
+IsBroughtOnce state more x = (times more x ≡ 1) × ¬ (IsKnown state x)
+
+-- so it is where a step is brought alone that was not known
+pub brought_alone : (state : State) (y x : Owed) → ¬ (IsKnown state y) → Contains (y ∷ []) x → IsBroughtOnce state (y ∷ []) x
+brought_alone state y x new c = subst (IsBroughtOnce state (y ∷ [])) (one_has y x c) (times_one y, new)
 
 module _ (plan : Parts) (state : State) where
   -- so a state is tidy

@@ -27,8 +27,8 @@ use Rattle.ix_closure.proofs.DueCauses.{ArrivesBy, cause_of}
 use Rattle.ix_closure.proofs.TidyKnown.{edge_known, arrival_known}
 use Rattle.ix_closure.proofs.ListCounts.{count_append}
 use Rattle.ix_closure.proofs.StepLogs.{IsBeside, has_not}
-use Rattle.ix_closure.proofs.TidyCauses.{HasCause, IsSingle, IsKnown}
-use Rattle.ix_closure.proofs.OwedTimes.{times_one, same_step_refl, same_step_true}
+use Rattle.ix_closure.proofs.TidyCauses.{HasCause, IsSingle, IsKnown, IsBroughtOnce, brought_alone}
+use Rattle.ix_closure.proofs.OwedTimes.{same_step_refl, same_step_true}
 
 module _ (plan : Parts) (planned : IsPlanned plan) (old new : State) (n : ℕ) (log : List Fact) (s l p : ℕ) (more : List Owed)
     (done : IsDone plan old new n log (Claim s l p) more) (tidy : IsTidy plan old) where
@@ -52,26 +52,14 @@ module _ (plan : Parts) (planned : IsPlanned plan) (old new : State) (n : ℕ) (
   recorded : log_after plan log (Claim s l p) ≡ log ++ fact.Claim s l p ∷ []
   recorded = ap (λ d. cond d (put log (fact.Claim s l p)) log) descriptor ∙ put-new log (fact.Claim s l p) no_claim
 
-  -- it records no other fact
-  beside : (f : Fact) → IsBeside plan log (Claim s l p) f → HasCause plan new f
-  unfolding IsBeside
-  beside f b = absurd b
-
   -- what the claim brings is owed once, and was not known
-  brought : (steps : List Owed) → FollowsDesc plan s l p steps → (x : Owed) → IsSingle x → Contains steps x → (times steps x ≡ 1) × ¬ (IsKnown old x)
-  brought steps (passes x after e next t) o single c = (
-    times_one (Arrive (sub_of after l p e)) o c,
-    λ known. unclaimed (subst (ArrivesBy plan planned (IsRecorded old.banks) s l p e) t.3 (arrival_known plan planned old tidy (sub_of after l p e) (subst (IsKnown old) (sym (one_has (Arrive (sub_of after l p e)) o c)) known) s x next)),
-  )
+  brought : (steps : List Owed) → FollowsDesc plan s l p steps → (x : Owed) → IsSingle x → Contains steps x → IsBroughtOnce old steps x
+  brought steps (passes x after e next t) o single c =
+      brought_alone old (Arrive (sub_of after l p e)) o (λ known. unclaimed (subst (ArrivesBy plan planned (IsRecorded old.banks) s l p e) t.3 (arrival_known plan planned old tidy (sub_of after l p e) known s x next))) c
   brought steps (stops t shown after next none) o single c = absurd (none_has o c)
-  brought steps (inserts m after next) o single c = (
-    times_one (Arrive (sub_of after l p p)) o c,
-    λ known. unclaimed (arrival_known plan planned old tidy (sub_of after l p p) (subst (IsKnown old) (sym (one_has (Arrive (sub_of after l p p)) o c)) known) s (sy.Insert m) next),
-  )
-  brought steps (calls r after mark next) o single c = (
-    times_one (Edge r p s l) o c,
-    λ known. unclaimed (edge_known plan planned old tidy r p s l (subst (IsKnown old) (sym (one_has (Edge r p s l) o c)) known)),
-  )
+  brought steps (inserts m after next) o single c =
+      brought_alone old (Arrive (sub_of after l p p)) o (λ known. unclaimed (arrival_known plan planned old tidy (sub_of after l p p) known s (sy.Insert m) next)) c
+  brought steps (calls r after mark next) o single c = brought_alone old (Edge r p s l) o (λ known. unclaimed (edge_known plan planned old tidy r p s l known)) c
   brought steps (ends r last) o single c = absurd (subst IsSingle (sym (one_has (End r l p) o c)) single)
 
   -- whether the claim gives the end that is owed
@@ -110,4 +98,5 @@ module _ (plan : Parts) (planned : IsPlanned plan) (old new : State) (n : ℕ) (
       )
 
   pub claim_tidy : IsBalanced plan new → IsTidy plan new
-  claim_tidy balanced = tidy_after plan planned old new n log (Claim s l p) more done tidy balanced tt beside (brought more follows) enough
+  unfolding IsBeside
+  claim_tidy balanced = tidy_after plan planned old new n log (Claim s l p) more done tidy balanced tt (λ f b. absurd b) (brought more follows) enough

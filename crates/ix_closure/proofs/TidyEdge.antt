@@ -29,7 +29,7 @@ use Rattle.ix_closure.proofs.TidyKnown.{claim_known, arrival_known}
 use Rattle.ix_closure.proofs.StepLogs.{IsBeside, has_none, has_not}
 use Rattle.ix_closure.proofs.ListMembers.{map_from}
 use Rattle.ix_closure.proofs.OnceEach.{once_map}
-use Rattle.ix_closure.proofs.TidyCauses.{HasCause, IsSingle, IsKnown, begun_cause}
+use Rattle.ix_closure.proofs.TidyCauses.{HasCause, IsSingle, IsKnown, IsBroughtOnce, begun_cause}
 use Rattle.ix_closure.proofs.OwedTimes.{times_append, times_none, times_once}
 
 module _ (plan : Parts) (planned : IsPlanned plan) (old new : State) (n : ℕ) (log : List Fact) (r k s l : ℕ) (more : List Owed)
@@ -118,7 +118,7 @@ module _ (plan : Parts) (planned : IsPlanned plan) (old new : State) (n : ℕ) (
   times_more x = ap (λ steps. times steps x) brings ∙ times_append claims met x
 
   -- what it brings is owed once, and was not known
-  brought : (x : Owed) → IsSingle x → Contains more x → (times more x ≡ 1) × ¬ (IsKnown old x)
+  brought : (x : Owed) → IsSingle x → Contains more x → IsBroughtOnce old more x
   brought x single c = elim (Contains-append_cases claims met x (subst (λ steps. Contains steps x) brings c)) [
     | inl h ↦ (omega (arith, times_more x, (opened_from x h).once, times_none met x (not_both x h)), claim_new x (opened_from x h))
     | inr h ↦

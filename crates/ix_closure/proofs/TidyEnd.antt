@@ -26,7 +26,7 @@ use Rattle.ix_closure.proofs.StepLogs.{IsBeside, has_none}
 use Rattle.ix_closure.proofs.ListMembers.{map_from}
 use Rattle.ix_closure.proofs.OnceEach.{once_map}
 use Rattle.ix_closure.proofs.RecordedFacts.{recorded_closed}
-use Rattle.ix_closure.proofs.TidyCauses.{HasCause, IsSingle, IsKnown}
+use Rattle.ix_closure.proofs.TidyCauses.{HasCause, IsSingle, IsKnown, IsBroughtOnce}
 use Rattle.ix_closure.proofs.OwedTimes.{times_once}
 
 -- edges with one arrival are the same
@@ -39,11 +39,6 @@ same_arrival k e a b h =
 
 module _ (plan : Parts) (planned : IsPlanned plan) (old new : State) (n : ℕ) (log : List Fact) (r k e : ℕ) (more : List Owed)
     (done : IsDone plan old new n log (End r k e) more) (tidy : IsTidy plan old) where
-  -- it records no other fact
-  beside : (f : Fact) → IsBeside plan log (End r k e) f → HasCause plan new f
-  unfolding IsBeside
-  beside f b = absurd b
-
   -- what a new end meets did not arrive before
   arrival_new : has log (fact.End r k e) ≡ false → (a : Arc) → Contains (edges_in log (cluster r k)) a → ¬ (IsKnown old (arrival k e a))
   arrival_new fresh a c known =
@@ -52,10 +47,10 @@ module _ (plan : Parts) (planned : IsPlanned plan) (old new : State) (n : ℕ) (
       (done.moves.here (fact.End r k e) refl (arrival_known plan planned old tidy (sub_of (a.slot + 1) a.left k e) known a.slot (sy.Rule r next.0) next.1).1)
 
   -- what it brings is owed once, and was not known
-  brought : (x : Owed) → IsSingle x → Contains more x → (times more x ≡ 1) × ¬ (IsKnown old x)
+  brought : (x : Owed) → IsSingle x → Contains more x → IsBroughtOnce old more x
   brought x single c = by (has log (fact.End r k e)) refl done.follows
     where
-      by : (b : Bool) → has log (fact.End r k e) ≡ b → more ≡ map (arrival k e) (cond b [] (edges_in log (cluster r k))) → (times more x ≡ 1) × ¬ (IsKnown old x)
+      by : (b : Bool) → has log (fact.End r k e) ≡ b → more ≡ map (arrival k e) (cond b [] (edges_in log (cluster r k))) → IsBroughtOnce old more x
       by true q w = absurd (none_has x (subst (λ steps. Contains steps x) w c))
       by false q w =
           let there = subst (λ steps. Contains steps x) w c in
@@ -73,4 +68,5 @@ module _ (plan : Parts) (planned : IsPlanned plan) (old new : State) (n : ℕ) (
       let same = a.2 in cc
 
   pub end_tidy : IsBalanced plan new → IsTidy plan new
-  end_tidy balanced = tidy_after plan planned old new n log (End r k e) more done tidy balanced tt beside brought (ends_kept plan planned old new n log (End r k e) more done no_end)
+  unfolding IsBeside
+  end_tidy balanced = tidy_after plan planned old new n log (End r k e) more done tidy balanced tt (λ f b. absurd b) brought (ends_kept plan planned old new n log (End r k e) more done no_end)

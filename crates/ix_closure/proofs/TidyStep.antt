@@ -31,7 +31,7 @@ use Rattle.ix_closure.proofs.StepLogs.{IsBeside, newly_recorded}
 use Rattle.ix_closure.proofs.ListMembers.{nth_has, left_was}
 use Rattle.ix_closure.proofs.RecordedFacts.{Moves}
 use Rattle.ix_closure.proofs.EventBanks.{SharesHome, HomeMoves, step_due, step_closed, event_moves}
-use Rattle.ix_closure.proofs.TidyCauses.{HasCause, IsSingle, IsKnown, tidy_by, tidy_caused, tidy_once, cause_grows}
+use Rattle.ix_closure.proofs.TidyCauses.{HasCause, IsSingle, IsBroughtOnce, tidy_by, tidy_caused, tidy_once, cause_grows}
 use Rattle.ix_closure.proofs.OwedTimes.{times_some, times_none, times_append, times_taken, times_left, fact_of_same}
 
 -- the n-th owed step was done on the bank with the log, and brought more
@@ -105,7 +105,7 @@ module _ (plan : Parts) (planned : IsPlanned plan) (old new : State) (n : ℕ) (
   -- once and was not known, and the ends that are brought have claims that give them
   module _ (tidy : IsTidy plan old) (balanced : IsBalanced plan new)
       (own : HasCause plan new (fact_of step)) (beside : (f : Fact) → IsBeside plan log step f → HasCause plan new f)
-      (brought : (x : Owed) → IsSingle x → Contains more x → (times more x ≡ 1) × ¬ (IsKnown old x))
+      (brought : (x : Owed) → IsSingle x → Contains more x → IsBroughtOnce old more x)
       (ends : (r k e : ℕ) → times more (End r k e) + givers plan (facts_of old.banks) r k e ≤ givers plan (facts_of new.banks) r k e) where
     times_new : (x : Owed) → times new.owed x ≡ times (remove old.owed n) x + times more x
     times_new x = ap (λ owed. times owed x) done.owed ∙ times_append (remove old.owed n) more x
