@@ -1,5 +1,5 @@
 -- What a step brings is exactly what becomes due by it.
-use Rattle.std.proofs.Common.{◌≡◌, ℕ, ◌+◌, Bool, true, false, cond, not, List, [], ◌∷◌, ◌++◌, Contains, map, Option, refl, sym, subst, ◌⊎◌, inl, inr}
+use Rattle.std.proofs.Common.{◌≡◌, ℕ, ◌+◌, Bool, true, false, cond, not, List, [], ◌∷◌, ◌++◌, map, Contains, Option, refl, sym, subst, ◌⊎◌, inl, inr}
 use Rattle.std.proofs.lemmas.List.Elements.{Contains-append_left, Contains-append_right, Contains-append_cases}
 use Rattle.ix_model.specs.declared.grammar.Mark.{Mark}
 use Rattle.ix_model.specs.declared.rules.Sym.TheVariants as sy
@@ -25,12 +25,12 @@ use Rattle.ix_closure.specs.Due.{IsDue, claim, meets}
 use Rattle.ix_closure.specs.Events.{log_after}
 use Rattle.ix_closure.specs.Follows.{fact_of, sub_of, arrival, claims_at, claim_of, FollowsDesc, FollowsClaim, Follows}
 use Rattle.ix_closure.proofs.ClusterLists.{edges_have, ends_have, edges_from, ends_from}
-use Rattle.ix_closure.proofs.DueCauses.{cause_of, edge_next}
 use Rattle.ix_closure.proofs.DescriptorSteps.{follows_same, follows_due}
-use Rattle.ix_closure.proofs.StepLogs.{IsBeside, newly_recorded}
+use Rattle.ix_closure.proofs.DueCauses.{cause_of, edge_next}
 use Rattle.ix_closure.proofs.ListMembers.{map_has, map_from}
 use Rattle.ix_closure.proofs.NewlyDue.{IsNewlyDue, by_desc, by_claim, by_edge, by_end, due_grows, due_split}
 use Rattle.ix_closure.proofs.RecordedFacts.{Moves}
+use Rattle.ix_closure.proofs.StepLogs.{IsBeside, newly_recorded}
 
 -- the step has recorded its fact, and what is due behind it was due before or is among the further steps
 pub record Brings (plan : Parts) (Before After : Fact → Type 0) (o : Owed) (more : List Owed) : Type 0 where

@@ -11,8 +11,8 @@ use Rattle.ix_cluster.specs.Seen.{Bank}
 use Rattle.ix_cluster.specs.Sound.{AreSound}
 use Rattle.ix_closure.specs.Closure.{IsClosure}
 use Rattle.ix_closure.specs.Quantity.{step_bound}
-use Rattle.ix_closure.proofs.LogCounts.{tallied}
 use Rattle.ix_closure.proofs.FactsOnce.{facts_once}
+use Rattle.ix_closure.proofs.LogCounts.{tallied}
 use Rattle.ix_closure.proofs.RecordedFacts.{recorded_closed}
 use Rattle.ix_closure.proofs.Sublists.{fewer, fewer_by, fewer_pairs}
 use Rattle.ix_closure.proofs.Weights.{is_claim, weight, weight_in, weight_of_facts}

@@ -1,5 +1,5 @@
 -- A step of a core is an event.
-use Rattle.std.proofs.Common.{◌≡◌, ℕ, ◌+◌, ◌<◌, ◌^◌, List, length, Some, slice_get, slice_set, get_or, Result, Ok, Err, OnOk, OnErr, refl, sym, ap, ◌∙◌, subst, arith}
+use Rattle.std.proofs.Common.{◌≡◌, ℕ, ◌+◌, ◌^◌, ◌<◌, List, length, get_or, Some, slice_get, slice_set, Result, Ok, Err, OnOk, OnErr, refl, sym, ap, ◌∙◌, subst, arith}
 use Rattle.std.proofs.lemmas.Option.{slice_get_read}
 use Rattle.ix_model.specs.Parts.{Parts}
 use Rattle.ix_model.specs.Planned.{IsPlanned}
@@ -10,17 +10,16 @@ use Rattle.ix_cluster.specs.Room.{unclaimed_in}
 use Rattle.ix_cluster.specs.Seen.{Bank}
 use Rattle.ix_closure.specs.declared.owed.Owed.{Owed}
 use Rattle.ix_closure.specs.Balance.{IsBalanced}
-use Rattle.ix_closure.specs.Due.{IsRecorded}
 use Rattle.ix_closure.specs.Events.{Event, bank_after, home_for}
 use Rattle.ix_closure.specs.Follows.{fact_of}
 use Rattle.ix_closure.specs.Ready.{HasSlot, IsReady, IsReplaced}
 use Rattle.ix_closure.specs.Seen.{State}
-use Rattle.ix_closure.proofs.EventBalance.{event_balanced}
 use Rattle.ix_closure.proofs.DueClosed.{owed_closed}
+use Rattle.ix_closure.proofs.EventBalance.{event_balanced}
 use Rattle.ix_closure.proofs.ListMembers.{nth_has}
+use Rattle.ix_closure.proofs.ListUpdates.{set_same}
 use Rattle.ix_closure.proofs.Readiness.{step_slot, step_ready}
 use Rattle.ix_closure.proofs.RecordedFacts.{recorded_closed, recorded_by}
-use Rattle.ix_closure.proofs.ListUpdates.{set_same}
 
 -- the n-th owed step is this one
 module _ (plan : Parts) (planned : IsPlanned plan) (old : State) (balanced : IsBalanced plan old) (n : ℕ) (step : Owed) (within : n < length old.owed) (at : step ≡ get_or old.owed n step) where

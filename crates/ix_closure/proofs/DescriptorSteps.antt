@@ -1,14 +1,14 @@
 -- What a claimed descriptor brings, by the symbol behind its dot.
-use Rattle.std.proofs.Common.{◌≡◌, ℕ, ◌+◌, ◌<◌, ◌≤◌, Bool, List, [], ◌∷◌, Contains, length, Option, Some, None, slice_get, refl, sym, ap, ◌∙◌, subst, ◌⊎◌, inl, inr, arith}
+use Rattle.std.proofs.Common.{◌≡◌, ℕ, ◌+◌, ◌<◌, ◌≤◌, Bool, List, [], ◌∷◌, length, Contains, Option, Some, None, slice_get, refl, sym, ap, ◌∙◌, subst, ◌⊎◌, inl, inr, arith}
 use Rattle.std.proofs.lemmas.Option.{slice_get-get_or, get_or_from_slice_get}
 use Rattle.ix_model.specs.declared.rules.Sym.{Sym}
 use Rattle.ix_model.specs.declared.rules.Sym.TheVariants as sy
 use Rattle.ix_model.specs.declared.rules.Terminal.{Terminal}
 use Rattle.ix_model.specs.declared.rules.Terminal.TheVariants as terminal
-use Rattle.ix_model.specs.Parts.{Parts}
-use Rattle.ix_model.specs.Planned.{IsPlanned}
 use Rattle.ix_model.specs.FlatDerives.{IsTerminal, TerminalMatches}
 use Rattle.ix_model.specs.Numbered.{terminal_at}
+use Rattle.ix_model.specs.Parts.{Parts}
+use Rattle.ix_model.specs.Planned.{IsPlanned}
 use Rattle.ix_model.specs.Slots.{info_at, sym_after}
 use Rattle.ix_model.proofs.SlotReaders.{next_reads, last_reads, reads_next}
 use Rattle.ix_cluster.specs.declared.fact.Fact.{Fact}

@@ -1,13 +1,13 @@
 -- What a due step follows from.
-use Rattle.std.proofs.Common.{◌≡◌, ℕ, ◌+◌, sym, subst, ◌∙◌, Option, Some, arith}
+use Rattle.std.proofs.Common.{◌≡◌, ℕ, ◌+◌, Option, Some, sym, ◌∙◌, subst, arith}
 use Rattle.ix_model.specs.declared.grammar.Mark.{Mark}
 use Rattle.ix_model.specs.declared.rules.Sym.{Sym}
 use Rattle.ix_model.specs.declared.rules.Sym.TheVariants as sy
 use Rattle.ix_model.specs.declared.sub.Sub.{Sub}
+use Rattle.ix_model.specs.Closed as closed
 use Rattle.ix_model.specs.Parts.{Parts}
 use Rattle.ix_model.specs.Planned.{IsPlanned}
 use Rattle.ix_model.specs.SlotPlaces.{HasNext, IsFirst}
-use Rattle.ix_model.specs.Closed as closed
 use Rattle.ix_model.proofs.ClosedLinks.{edge_from}
 use Rattle.ix_model.proofs.SlotPlaces.{same_slot, same_before}
 use Rattle.ix_model.proofs.SlotReaders.{next_reads}

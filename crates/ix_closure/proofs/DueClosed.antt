@@ -1,7 +1,7 @@
 -- What follows from facts of the closure is in the closure.
 use Rattle.std.proofs.Common.{Contains}
-use Rattle.ix_model.specs.Parts.{Parts}
 use Rattle.ix_model.specs.Closed as closed
+use Rattle.ix_model.specs.Parts.{Parts}
 use Rattle.ix_cluster.specs.declared.fact.Fact.{Fact}
 use Rattle.ix_cluster.specs.declared.fact.Fact.TheVariants as fact
 use Rattle.ix_cluster.specs.ClosedFacts.{IsInClosed}

@@ -1,23 +1,22 @@
 -- An event keeps a state balanced.
-use Rattle.std.proofs.Common.{◌≡◌, ℕ, List, ◌++◌, Contains, length, remove, refl, sym, subst, inl, inr}
+use Rattle.std.proofs.Common.{ℕ, List, ◌++◌, length, remove, Contains, refl, sym, subst, inl, inr}
 use Rattle.std.proofs.lemmas.List.Elements.{Contains-append_left, Contains-append_right, Contains-append_cases}
 use Rattle.ix_model.specs.Parts.{Parts}
 use Rattle.ix_model.specs.Planned.{IsPlanned}
 use Rattle.ix_cluster.specs.declared.fact.Fact.{Fact}
 use Rattle.ix_cluster.specs.ClosedFacts.{IsInClosed}
-use Rattle.ix_cluster.specs.Homes.{home_of}
 use Rattle.ix_closure.specs.declared.owed.Owed.{Owed}
 use Rattle.ix_closure.specs.declared.owed.Owed.TheVariants.{Claim, Edge, End, Arrive}
 use Rattle.ix_closure.specs.Balance.{IsBalanced}
 use Rattle.ix_closure.specs.Due.{IsDue, IsRecorded, FollowsIn, IsMissing}
-use Rattle.ix_closure.specs.Events.{Event, log_after, home_for}
+use Rattle.ix_closure.specs.Events.{Event, log_after}
 use Rattle.ix_closure.specs.Follows.{fact_of, Follows}
 use Rattle.ix_closure.specs.Seen.{State}
 use Rattle.ix_closure.proofs.BroughtSteps.{Brings, claim_brings, end_brings, arrival_brings, edge_brings}
+use Rattle.ix_closure.proofs.EventBanks.{SharesHome, HomeMoves, step_due, step_closed, event_sound, event_moves}
 use Rattle.ix_closure.proofs.ListMembers.{left_was, taken_or_left}
 use Rattle.ix_closure.proofs.NewlyDue.{due_grows}
 use Rattle.ix_closure.proofs.RecordedFacts.{Moves, recorded_closed}
-use Rattle.ix_closure.proofs.EventBanks.{SharesHome, HomeMoves, step_due, step_closed, event_sound, event_moves}
 
 -- each kind of step brings what becomes due by it
 pub step_brings : (plan : Parts) → IsPlanned plan → (count : ℕ) (Before After : Fact → Type 0) (log : List Fact) → ((f : Fact) → Before f → IsInClosed plan f) → (o : Owed) (more : List Owed) → IsDue plan Before o → IsInClosed plan (fact_of o)

@@ -1,5 +1,5 @@
 -- What an event does to the banks.
-use Rattle.std.proofs.Common.{List, ◌≡◌, ℕ, length, refl, sym, subst}
+use Rattle.std.proofs.Common.{◌≡◌, ℕ, List, length, refl, sym, subst}
 use Rattle.ix_model.specs.Parts.{Parts}
 use Rattle.ix_model.specs.Planned.{IsPlanned}
 use Rattle.ix_cluster.specs.declared.fact.Fact.{Fact}
@@ -14,9 +14,9 @@ use Rattle.ix_closure.specs.Follows.{fact_of}
 use Rattle.ix_closure.specs.Seen.{State}
 use Rattle.ix_closure.proofs.BankSound.{bank_sound}
 use Rattle.ix_closure.proofs.DueClosed.{owed_closed}
-use Rattle.ix_closure.proofs.StepLogs.{log_keeps}
 use Rattle.ix_closure.proofs.ListMembers.{nth_has}
-use Rattle.ix_closure.proofs.RecordedFacts.{Moves, recorded_closed, set_sound, set_moves}
+use Rattle.ix_closure.proofs.RecordedFacts.{Moves, set_sound, set_moves}
+use Rattle.ix_closure.proofs.StepLogs.{log_keeps}
 
 -- the fact has its home where the step has
 abbrev pub SharesHome : Parts → ℕ → Owed → Fact → Type 0

@@ -9,11 +9,11 @@ use Rattle.ix_closure.specs.Balance.{IsBalanced}
 use Rattle.ix_closure.specs.Events.{Event}
 use Rattle.ix_closure.specs.Seen.{State}
 use Rattle.ix_closure.specs.Tidy.{IsTidy}
-use Rattle.ix_closure.proofs.TidyStep.{IsDone, event_done}
 use Rattle.ix_closure.proofs.TidyArrival.{arrive_tidy}
 use Rattle.ix_closure.proofs.TidyClaim.{claim_tidy}
 use Rattle.ix_closure.proofs.TidyEdge.{edge_tidy}
 use Rattle.ix_closure.proofs.TidyEnd.{end_tidy}
+use Rattle.ix_closure.proofs.TidyStep.{IsDone, event_done}
 
 -- by the kind of its step
 step_tidy : (plan : Parts) → IsPlanned plan → (old new : State) (n : ℕ) (log : List Fact) (step : Owed) (more : List Owed) → IsDone plan old new n log step more → IsTidy plan old → IsBalanced plan new → IsTidy plan new

@@ -11,10 +11,10 @@ use Rattle.ix_closure.specs.Runs.{Run, rests, goes_on}
 use Rattle.ix_closure.specs.Seen.{State}
 use Rattle.ix_closure.specs.Tidy.{IsTidy}
 use Rattle.ix_closure.proofs.EventBalance.{event_balanced}
+use Rattle.ix_closure.proofs.EventTidy.{event_tidy}
 use Rattle.ix_closure.proofs.FewChoices.{few_choices}
 use Rattle.ix_closure.proofs.Opening.{opening_balanced, opening_tidy}
 use Rattle.ix_closure.proofs.QuietClosure.{quiet_closure}
-use Rattle.ix_closure.proofs.EventTidy.{event_tidy}
 
 module _ (plan : Parts) (planned : IsPlanned plan) (first : State) (banks : first.banks ≡ opening plan 1) (owed : first.owed ≡ claims_at 0 (firsts_of plan 0)) (sound : AreSound plan first.banks) where
   run_tidy : (choices : List ℕ) (last : State) → Run plan first choices last → IsTidy plan last

@@ -1,5 +1,5 @@
 -- A list of choices is no longer than twice the descriptors of the closure, and its pairs of an edge and an end.
-use Rattle.std.proofs.Common.{◌≡◌, ℕ, ◌+◌, ◌≤◌, Bool, true, false, List, [], ◌∷◌, length, length-append, remove, Contains, Some, slice_get, refl, sym, ap, ◌∙◌, subst, arith, true≢false}
+use Rattle.std.proofs.Common.{◌≡◌, ℕ, ◌+◌, ◌≤◌, List, [], ◌∷◌, length, length-append, remove, Contains, Some, slice_get, refl, sym, ap, ◌∙◌, arith}
 use Rattle.std.proofs.lemmas.List.{length-map}
 use Rattle.std.proofs.lemmas.List.Edits.{length-remove}
 use Rattle.std.proofs.lemmas.Option.{slice_get_within}
@@ -10,11 +10,9 @@ use Rattle.ix_model.proofs.SlotReaders.{first_reads}
 use Rattle.ix_cluster.specs.declared.fact.Fact.{Fact}
 use Rattle.ix_cluster.specs.declared.fact.Fact.TheVariants as fact
 use Rattle.ix_cluster.specs.Banks.{opening}
-use Rattle.ix_cluster.specs.Facts.{has}
 use Rattle.ix_cluster.specs.Firsts.{firsts_of}
 use Rattle.ix_cluster.specs.Homes.{home}
 use Rattle.ix_cluster.specs.Seen.{Bank}
-use Rattle.ix_cluster.proofs.Members.{Contains-has, has-Contains}
 use Rattle.ix_closure.specs.declared.owed.Owed.TheVariants.{Claim}
 use Rattle.ix_closure.specs.Closure.{IsClosure}
 use Rattle.ix_closure.specs.Events.{Event, bank_after, home_for}
@@ -23,11 +21,11 @@ use Rattle.ix_closure.specs.Quantity.{step_bound}
 use Rattle.ix_closure.specs.Runs.{Run, rests, goes_on}
 use Rattle.ix_closure.specs.Seen.{State}
 use Rattle.ix_closure.specs.Tidy.{IsTidy}
-use Rattle.ix_closure.proofs.FirstSlots.{first_of}
 use Rattle.ix_closure.proofs.ClosureWeights.{weight_sound}
-use Rattle.ix_closure.proofs.StepWeights.{IsFresh, descriptor_call, step_paid}
+use Rattle.ix_closure.proofs.FirstSlots.{first_of}
 use Rattle.ix_closure.proofs.RecordedFacts.{recorded_by, recorded_here}
 use Rattle.ix_closure.proofs.StepLogs.{has_none, has_not}
+use Rattle.ix_closure.proofs.StepWeights.{IsFresh, descriptor_call, step_paid}
 use Rattle.ix_closure.proofs.Weights.{weight_in, weight_set}
 
 module _ (plan : Parts) (planned : IsPlanned plan) where

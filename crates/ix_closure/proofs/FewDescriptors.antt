@@ -1,5 +1,5 @@
 -- The closure has few descriptors: their slots and positions are those of the plan.
-use Rattle.std.proofs.Common.{◌≡◌, ℕ, ◌+◌, ◌*◌, ◌≤◌, ◌<◌, true, List, length, map, get_or, Contains, count_by, sym, subst, arith}
+use Rattle.std.proofs.Common.{◌≡◌, ℕ, ◌+◌, ◌*◌, ◌<◌, ◌≤◌, true, List, length, map, count_by, Contains, subst, arith}
 use Rattle.std.specs.List.{IsDistinct, flat_map, range_with_len}
 use Rattle.std.proofs.lemmas.List.{length-map}
 use Rattle.std.proofs.lemmas.List.FromFn.{length-range_with_len}
@@ -12,9 +12,9 @@ use Rattle.ix_cluster.specs.declared.fact.Fact.TheVariants.{Desc}
 use Rattle.ix_cluster.specs.Banks.{is_descriptor}
 use Rattle.ix_cluster.specs.ClosedFacts.{IsInClosed}
 use Rattle.ix_cluster.specs.Facts.{same_fact}
-use Rattle.ix_closure.proofs.LogCounts.{tallied}
 use Rattle.ix_closure.proofs.ListCounts.{length_flat}
 use Rattle.ix_closure.proofs.ListMembers.{map_has, flat_has}
+use Rattle.ix_closure.proofs.LogCounts.{tallied}
 use Rattle.ix_closure.proofs.Ranges.{range_has}
 use Rattle.ix_closure.proofs.Sublists.{fewer}
 

@@ -1,5 +1,5 @@
 -- How many elements a list has, and how many of them pass a test.
-use Rattle.std.proofs.Common.{◌≡◌, ℕ, ◌+◌, ◌*◌, ◌≤◌, Bool, true, false, cond, List, [], ◌∷◌, ◌++◌, length, Contains, remove, count_by, Option, None, Some, slice_get, slice_set, refl, sym, ap, subst, inl, inr, arith}
+use Rattle.std.proofs.Common.{◌≡◌, ℕ, ◌+◌, ◌*◌, ◌≤◌, Bool, true, false, cond, List, [], ◌∷◌, ◌++◌, length, remove, count_by, Contains, Option, Some, None, slice_get, slice_set, refl, sym, ap, subst, inl, inr, arith}
 use Rattle.std.specs.List.{sum_by, filter_map, cons_option, flat_map}
 use Rattle.std.proofs.lemmas.List.Concat.{length-flat_map}
 use Rattle.std.proofs.lemmas.List.Recursion.{is_count_by}

@@ -23,8 +23,8 @@ use Rattle.ix_closure.specs.Seen.{State}
 use Rattle.ix_closure.specs.Tidy.{IsTidy, IsOwedOnce}
 use Rattle.ix_closure.proofs.FirstSlots.{claims_once}
 use Rattle.ix_closure.proofs.ListMembers.{map_has, map_from, flat_has, flat_from}
-use Rattle.ix_closure.proofs.TidyCauses.{HasCause, IsSingle, tidy_by, begun_cause}
 use Rattle.ix_closure.proofs.OwedTimes.{times_none, times_once}
+use Rattle.ix_closure.proofs.TidyCauses.{HasCause, IsSingle, tidy_by, begun_cause}
 
 module _ (plan : Parts) (state : State) (count : ℕ) (banks : state.banks ≡ opening plan count) where
   -- what is recorded at the start is the first call, or its alternatives began with it

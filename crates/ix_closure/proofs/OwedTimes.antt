@@ -1,8 +1,8 @@
 -- How often a step is owed.
-use Rattle.std.proofs.Common.{◌≡◌, ℕ, ◌+◌, ◌≤◌, true, false, cond, List, [], ◌∷◌, ◌++◌, Contains, remove, Some, slice_get, sym, ap, subst, inl, inr, arith}
+use Rattle.std.proofs.Common.{◌≡◌, ℕ, ◌+◌, ◌≤◌, true, false, cond, List, [], ◌∷◌, ◌++◌, remove, Contains, Some, slice_get, sym, ap, subst, inl, inr, arith}
 use Rattle.std.proofs.lemmas.Bool.{false_from_ne_true}
 use Rattle.ix_cluster.proofs.FactLemmas.{same_fact-true, same_fact-refl}
-use Rattle.ix_cluster.proofs.Members.{either_has, none_has, one_has}
+use Rattle.ix_cluster.proofs.Members.{either_has, none_has}
 use Rattle.ix_closure.specs.declared.owed.Owed.{Owed}
 use Rattle.ix_closure.specs.declared.owed.Owed.TheVariants.{Claim, Edge, End, Arrive}
 use Rattle.ix_closure.specs.Follows.{fact_of}

@@ -1,5 +1,5 @@
 -- A step records a fact, or fewer steps are owed behind it.
-use Rattle.std.proofs.Common.{◌≡◌, ℕ, ◌+◌, ◌-◌, ◌*◌, ◌≤◌, ◌<◌, ◌^◌, Bool, true, false, cond, not, List, [], ◌++◌, length, append-nil, map, remove, Some, slice_get, slice_set, Contains, refl, ap, ◌∙◌, ◌⊎◌, inl, inr, arith}
+use Rattle.std.proofs.Common.{◌≡◌, ℕ, ◌+◌, ◌≤◌, Bool, true, false, cond, not, List, [], ◌++◌, append-nil, length, map, remove, Some, slice_get, slice_set, refl, ap, ◌∙◌, ◌⊎◌, inl, inr, arith}
 use Rattle.std.proofs.lemmas.List.Edits.{length-remove}
 use Rattle.std.proofs.lemmas.Option.{slice_get_within}
 use Rattle.ix_model.specs.Parts.{Parts}

@@ -1,9 +1,9 @@
 -- A balanced state in which nothing is owed has recorded exactly the closure.
-use Rattle.std.proofs.Common.{◌≡◌, ℕ, List, [], ◌<◌, length, get_or, arith, Contains, refl, subst, ◌⊎◌, inl, inr}
+use Rattle.std.proofs.Common.{◌≡◌, ℕ, ◌<◌, List, [], length, get_or, Contains, refl, subst, ◌⊎◌, inl, inr, arith}
 use Rattle.std.proofs.lemmas.List.{nil_from_length}
 use Rattle.std.proofs.lemmas.Option.{slice_get-get_or}
-use Rattle.ix_model.specs.Parts.{Parts}
 use Rattle.ix_model.specs.Closed as closed
+use Rattle.ix_model.specs.Parts.{Parts}
 use Rattle.ix_cluster.specs.declared.fact.Fact.{Fact}
 use Rattle.ix_cluster.specs.declared.fact.Fact.TheVariants as fact
 use Rattle.ix_cluster.specs.Banks.{facts_of}

@@ -1,9 +1,9 @@
 -- The numbers of a step that is owed are in range.
 use Rattle.std.proofs.Common.{ℕ, ◌+◌, Bool, true, false, cond, List, [], Contains, is_some, ap}
 use Rattle.ix_model.specs.declared.rules.Sym.TheVariants as sy
+use Rattle.ix_model.specs.Closed as closed
 use Rattle.ix_model.specs.Parts.{Parts}
 use Rattle.ix_model.specs.Planned.{IsPlanned}
-use Rattle.ix_model.specs.Closed as closed
 use Rattle.ix_model.proofs.ClosedWithin.{desc_within, edge_within, part_within}
 use Rattle.ix_model.proofs.SlotReaders.{next_reads}
 use Rattle.ix_cluster.specs.declared.cluster.Edge.{Edge as Arc}

@@ -1,12 +1,12 @@
 -- A step brings no more steps than what it adds to its bank's weight.
-use Rattle.std.proofs.Common.{◌≡◌, ℕ, ◌+◌, ◌≤◌, Bool, true, false, cond, not, List, [], ◌∷◌, ◌++◌, length, length-append, map, Contains, count_by, refl, sym, ap, ◌∙◌, subst, arith}
+use Rattle.std.proofs.Common.{◌≡◌, ℕ, ◌+◌, ◌≤◌, Bool, true, false, cond, not, List, [], ◌∷◌, ◌++◌, length, length-append, map, count_by, Contains, refl, sym, ap, ◌∙◌, subst, arith}
 use Rattle.std.proofs.lemmas.Bool.Decides.{nat_tests}
 use Rattle.std.proofs.lemmas.List.{length-map}
 use Rattle.ix_model.specs.declared.sub.Sub.{Sub}
 use Rattle.ix_model.specs.Parts.{Parts}
 use Rattle.ix_model.specs.Planned.{IsPlanned}
-use Rattle.ix_cluster.specs.declared.answers.Claimed.TheVariants.{Mine, Taken, Unknown}
 use Rattle.ix_cluster.specs.declared.answers.Arrived.TheVariants.{Fresh, Known}
+use Rattle.ix_cluster.specs.declared.answers.Claimed.TheVariants.{Mine, Taken, Unknown}
 use Rattle.ix_cluster.specs.declared.fact.Fact.{Fact}
 use Rattle.ix_cluster.specs.declared.fact.Fact.TheVariants as fact
 use Rattle.ix_cluster.specs.Banks.{is_descriptor}
@@ -22,8 +22,8 @@ use Rattle.ix_closure.specs.declared.owed.Owed.{Owed}
 use Rattle.ix_closure.specs.declared.owed.Owed.TheVariants.{Claim, Edge, End, Arrive}
 use Rattle.ix_closure.specs.Events.{log_after}
 use Rattle.ix_closure.specs.Follows.{Follows, FollowsClaim, arrival, claims_at, opened, met_ends, met_edges, claim_of}
-use Rattle.ix_closure.proofs.FirstSlots.{firsts_once}
 use Rattle.ix_closure.proofs.DescriptorSteps.{follows_few}
+use Rattle.ix_closure.proofs.FirstSlots.{firsts_once}
 use Rattle.ix_closure.proofs.LogCounts.{count_put, count_put_new, count_call}
 use Rattle.ix_closure.proofs.OnceEach.{IsOnceEach}
 use Rattle.ix_closure.proofs.Weights.{is_claim, weight}

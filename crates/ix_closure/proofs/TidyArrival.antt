@@ -1,5 +1,5 @@
 -- An arrival keeps a state tidy.
-use Rattle.std.proofs.Common.{◌≡◌, ℕ, Bool, true, false, cond, List, Contains, refl, sym, ap, ◌∙◌, subst, inr}
+use Rattle.std.proofs.Common.{◌≡◌, ℕ, Bool, true, false, cond, List, Contains, refl, sym, subst, inr}
 use Rattle.ix_model.specs.declared.sub.Sub.{Sub}
 use Rattle.ix_model.specs.Parts.{Parts}
 use Rattle.ix_model.specs.Planned.{IsPlanned}
@@ -13,15 +13,14 @@ use Rattle.ix_closure.specs.declared.owed.Owed.TheVariants.{Claim, End, Arrive}
 use Rattle.ix_closure.specs.Balance.{IsBalanced}
 use Rattle.ix_closure.specs.Due.{IsRecorded}
 use Rattle.ix_closure.specs.Follows.{claim_of}
-use Rattle.ix_closure.specs.Quantity.{times}
 use Rattle.ix_closure.specs.Seen.{State}
 use Rattle.ix_closure.specs.Tidy.{IsTidy}
-use Rattle.ix_closure.proofs.TidyStep.{IsDone, tidy_after, ends_kept}
 use Rattle.ix_closure.proofs.DueCauses.{arrival_not_first}
-use Rattle.ix_closure.proofs.TidyKnown.{claim_known}
-use Rattle.ix_closure.proofs.StepLogs.{IsBeside, has_none}
 use Rattle.ix_closure.proofs.NewlyDue.{due_grows}
+use Rattle.ix_closure.proofs.StepLogs.{IsBeside, has_none}
 use Rattle.ix_closure.proofs.TidyCauses.{HasCause, IsSingle, IsKnown, IsBroughtOnce, brought_alone}
+use Rattle.ix_closure.proofs.TidyKnown.{claim_known}
+use Rattle.ix_closure.proofs.TidyStep.{IsDone, tidy_after, ends_kept}
 
 module _ (plan : Parts) (planned : IsPlanned plan) (old new : State) (n : ℕ) (log : List Fact) (sub : Sub) (more : List Owed)
     (done : IsDone plan old new n log (Arrive sub) more) (tidy : IsTidy plan old) where

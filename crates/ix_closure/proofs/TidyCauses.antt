@@ -1,16 +1,16 @@
 -- A state is tidy where each recorded fact has its cause and each owed step its number.
-use Rattle.std.proofs.Common.{◌≡◌, ℕ, List, [], ◌∷◌, ◌≤◌, Contains, refl, sym, ◌∙◌, subst, ◌⊎◌, inl, inr}
+use Rattle.std.proofs.Common.{◌≡◌, ℕ, ◌≤◌, List, [], ◌∷◌, Contains, refl, sym, ◌∙◌, subst, ◌⊎◌, inl, inr}
 use Rattle.ix_model.specs.Parts.{Parts}
 use Rattle.ix_model.specs.Planned.{IsPlanned}
 use Rattle.ix_model.specs.SlotPlaces.{IsFirst}
+use Rattle.ix_model.proofs.SlotReaders.{first_reads}
 use Rattle.ix_cluster.specs.declared.fact.Fact.{Fact}
 use Rattle.ix_cluster.specs.declared.fact.Fact.TheVariants as fact
 use Rattle.ix_cluster.specs.Banks.{facts_of}
-use Rattle.ix_cluster.proofs.Members.{one_has}
-use Rattle.ix_cluster.proofs.Calls.{IsBegun}
 use Rattle.ix_cluster.specs.Firsts.{firsts_of}
 use Rattle.ix_cluster.proofs.Beginning.{ends_at_once}
-use Rattle.ix_model.proofs.SlotReaders.{first_reads}
+use Rattle.ix_cluster.proofs.Calls.{IsBegun}
+use Rattle.ix_cluster.proofs.Members.{one_has}
 use Rattle.ix_closure.specs.declared.owed.Owed.{Owed}
 use Rattle.ix_closure.specs.declared.owed.Owed.TheVariants.{Claim, Edge, End, Arrive}
 use Rattle.ix_closure.specs.Balance.{IsBalanced}

@@ -1,5 +1,5 @@
 -- A claim keeps a state tidy.
-use Rattle.std.proofs.Common.{◌≡◌, ℕ, ◌+◌, ◌≤◌, Bool, true, false, cond, List, [], ◌∷◌, ◌++◌, Contains, count_by, refl, sym, ap, ◌∙◌, subst, ◌⊎◌, inl, inr, arith}
+use Rattle.std.proofs.Common.{◌≡◌, ℕ, ◌+◌, ◌≤◌, Bool, true, false, cond, List, [], ◌∷◌, ◌++◌, count_by, Contains, refl, sym, ap, ◌∙◌, subst, ◌⊎◌, inl, inr, arith}
 use Rattle.std.proofs.lemmas.Bool.Decides.{nat_tests}
 use Rattle.ix_model.specs.declared.rules.Sym.TheVariants as sy
 use Rattle.ix_model.specs.Parts.{Parts}
@@ -22,13 +22,13 @@ use Rattle.ix_closure.specs.Follows.{sub_of, FollowsDesc, FollowsClaim, passes, 
 use Rattle.ix_closure.specs.Quantity.{same_step, times, givers, gives}
 use Rattle.ix_closure.specs.Seen.{State}
 use Rattle.ix_closure.specs.Tidy.{IsTidy}
-use Rattle.ix_closure.proofs.TidyStep.{IsDone, step_owed, tidy_after}
 use Rattle.ix_closure.proofs.DueCauses.{ArrivesBy, cause_of}
-use Rattle.ix_closure.proofs.TidyKnown.{edge_known, arrival_known}
 use Rattle.ix_closure.proofs.ListCounts.{count_append}
-use Rattle.ix_closure.proofs.StepLogs.{IsBeside, has_not}
-use Rattle.ix_closure.proofs.TidyCauses.{HasCause, IsSingle, IsKnown, IsBroughtOnce, brought_alone}
 use Rattle.ix_closure.proofs.OwedTimes.{same_step_refl, same_step_true}
+use Rattle.ix_closure.proofs.StepLogs.{IsBeside, has_not}
+use Rattle.ix_closure.proofs.TidyCauses.{IsSingle, IsBroughtOnce, brought_alone}
+use Rattle.ix_closure.proofs.TidyKnown.{edge_known, arrival_known}
+use Rattle.ix_closure.proofs.TidyStep.{IsDone, step_owed, tidy_after}
 
 module _ (plan : Parts) (planned : IsPlanned plan) (old new : State) (n : ℕ) (log : List Fact) (s l p : ℕ) (more : List Owed)
     (done : IsDone plan old new n log (Claim s l p) more) (tidy : IsTidy plan old) where

@@ -1,5 +1,5 @@
 -- An edge keeps a state tidy.
-use Rattle.std.proofs.Common.{◌≡◌, ℕ, ◌+◌, Bool, true, false, cond, not, List, [], ◌++◌, Contains, map, refl, sym, ap, ◌∙◌, subst, inl, inr, arith}
+use Rattle.std.proofs.Common.{◌≡◌, ℕ, ◌+◌, Bool, true, false, cond, not, List, [], ◌++◌, map, Contains, refl, sym, ap, ◌∙◌, subst, inl, inr, arith}
 use Rattle.std.proofs.lemmas.List.Elements.{Contains-append_cases}
 use Rattle.ix_model.specs.declared.rules.Sym.TheVariants as sy
 use Rattle.ix_model.specs.declared.sub.Sub.{Sub}
@@ -22,15 +22,15 @@ use Rattle.ix_closure.specs.Quantity.{times}
 use Rattle.ix_closure.specs.Seen.{State}
 use Rattle.ix_closure.specs.Tidy.{IsTidy}
 use Rattle.ix_closure.proofs.ClusterLists.{ends_once}
-use Rattle.ix_closure.proofs.TidyStep.{IsDone, step_owed, tidy_after, ends_kept}
 use Rattle.ix_closure.proofs.DueCauses.{cause_of, edge_next}
 use Rattle.ix_closure.proofs.FirstSlots.{first_of, claims_once}
-use Rattle.ix_closure.proofs.TidyKnown.{claim_known, arrival_known}
-use Rattle.ix_closure.proofs.StepLogs.{IsBeside, has_none, has_not}
 use Rattle.ix_closure.proofs.ListMembers.{map_from}
 use Rattle.ix_closure.proofs.OnceEach.{once_map}
-use Rattle.ix_closure.proofs.TidyCauses.{HasCause, IsSingle, IsKnown, IsBroughtOnce, begun_cause}
 use Rattle.ix_closure.proofs.OwedTimes.{times_append, times_none, times_once}
+use Rattle.ix_closure.proofs.StepLogs.{IsBeside, has_none, has_not}
+use Rattle.ix_closure.proofs.TidyCauses.{HasCause, IsSingle, IsKnown, IsBroughtOnce, begun_cause}
+use Rattle.ix_closure.proofs.TidyKnown.{claim_known, arrival_known}
+use Rattle.ix_closure.proofs.TidyStep.{IsDone, step_owed, tidy_after, ends_kept}
 
 module _ (plan : Parts) (planned : IsPlanned plan) (old new : State) (n : ℕ) (log : List Fact) (r k s l : ℕ) (more : List Owed)
     (done : IsDone plan old new n log (Edge r k s l) more) (tidy : IsTidy plan old) where

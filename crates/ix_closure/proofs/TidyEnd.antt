@@ -1,5 +1,5 @@
 -- An end keeps a state tidy.
-use Rattle.std.proofs.Common.{◌≡◌, ℕ, ◌+◌, Bool, true, false, cond, List, [], Contains, map, refl, sym, ap, ◌∙◌, subst, arith}
+use Rattle.std.proofs.Common.{◌≡◌, ℕ, ◌+◌, Bool, true, false, cond, List, [], map, Contains, refl, sym, ap, ◌∙◌, subst, arith}
 use Rattle.ix_model.specs.declared.rules.Sym.TheVariants as sy
 use Rattle.ix_model.specs.declared.sub.Sub.{Sub}
 use Rattle.ix_model.specs.Parts.{Parts}
@@ -19,15 +19,15 @@ use Rattle.ix_closure.specs.Quantity.{times}
 use Rattle.ix_closure.specs.Seen.{State}
 use Rattle.ix_closure.specs.Tidy.{IsTidy}
 use Rattle.ix_closure.proofs.ClusterLists.{edges_from, edges_once}
-use Rattle.ix_closure.proofs.TidyStep.{IsDone, tidy_after, ends_kept}
 use Rattle.ix_closure.proofs.DueCauses.{edge_next}
-use Rattle.ix_closure.proofs.TidyKnown.{arrival_known}
-use Rattle.ix_closure.proofs.StepLogs.{IsBeside, has_none}
 use Rattle.ix_closure.proofs.ListMembers.{map_from}
 use Rattle.ix_closure.proofs.OnceEach.{once_map}
-use Rattle.ix_closure.proofs.RecordedFacts.{recorded_closed}
-use Rattle.ix_closure.proofs.TidyCauses.{HasCause, IsSingle, IsKnown, IsBroughtOnce}
 use Rattle.ix_closure.proofs.OwedTimes.{times_once}
+use Rattle.ix_closure.proofs.RecordedFacts.{recorded_closed}
+use Rattle.ix_closure.proofs.StepLogs.{IsBeside, has_none}
+use Rattle.ix_closure.proofs.TidyCauses.{IsSingle, IsKnown, IsBroughtOnce}
+use Rattle.ix_closure.proofs.TidyKnown.{arrival_known}
+use Rattle.ix_closure.proofs.TidyStep.{IsDone, tidy_after, ends_kept}
 
 -- edges with one arrival are the same
 same_arrival : (k e : ℕ) (a b : Arc) → arrival k e a ≡ arrival k e b → a ≡ b

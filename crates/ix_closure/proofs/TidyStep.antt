@@ -1,5 +1,5 @@
 -- A step that was done on its bank, and when it keeps the state tidy.
-use Rattle.std.proofs.Common.{◌≡◌, ℕ, ◌+◌, ◌≤◌, Bool, List, ◌++◌, length, Contains, remove, count_by, Some, slice_get, sym, ap, ◌∙◌, subst, ◌⊎◌, inl, inr, arith}
+use Rattle.std.proofs.Common.{◌≡◌, ℕ, ◌+◌, ◌≤◌, Bool, List, ◌++◌, length, remove, count_by, Contains, Some, slice_get, sym, ap, ◌∙◌, subst, ◌⊎◌, inl, inr, arith}
 use Rattle.std.specs.List.{IsDistinct}
 use Rattle.std.proofs.lemmas.List.Elements.{Contains-append_cases}
 use Rattle.ix_model.specs.declared.sub.Sub.{Sub}
@@ -11,7 +11,6 @@ use Rattle.ix_cluster.specs.declared.fact.Fact.TheVariants as fact
 use Rattle.ix_cluster.specs.Banks.{facts_of}
 use Rattle.ix_cluster.specs.ClosedFacts.{IsInClosed}
 use Rattle.ix_cluster.specs.Facts.{same_fact}
-use Rattle.ix_cluster.specs.Homes.{home_of}
 use Rattle.ix_cluster.specs.Steps.{empty_sub}
 use Rattle.ix_cluster.proofs.Calls.{IsBegun}
 use Rattle.ix_closure.specs.declared.owed.Owed.{Owed}
@@ -24,15 +23,14 @@ use Rattle.ix_closure.specs.Quantity.{same_step, times, givers, gives}
 use Rattle.ix_closure.specs.Seen.{State}
 use Rattle.ix_closure.specs.Tidy.{IsTidy, IsOwedOnce}
 use Rattle.ix_closure.proofs.DueCauses.{arrival_not_first}
+use Rattle.ix_closure.proofs.EventBanks.{SharesHome, HomeMoves, step_due, step_closed, event_moves}
 use Rattle.ix_closure.proofs.FirstSlots.{first_of}
 use Rattle.ix_closure.proofs.ListCounts.{count_remove}
-use Rattle.ix_closure.proofs.LogCounts.{count_set, count_after}
-use Rattle.ix_closure.proofs.StepLogs.{IsBeside, newly_recorded}
 use Rattle.ix_closure.proofs.ListMembers.{nth_has, left_was}
-use Rattle.ix_closure.proofs.RecordedFacts.{Moves}
-use Rattle.ix_closure.proofs.EventBanks.{SharesHome, HomeMoves, step_due, step_closed, event_moves}
-use Rattle.ix_closure.proofs.TidyCauses.{HasCause, IsSingle, IsBroughtOnce, tidy_by, tidy_caused, tidy_once, cause_grows}
+use Rattle.ix_closure.proofs.LogCounts.{count_set, count_after}
 use Rattle.ix_closure.proofs.OwedTimes.{times_some, times_none, times_append, times_taken, times_left, fact_of_same}
+use Rattle.ix_closure.proofs.StepLogs.{IsBeside, newly_recorded}
+use Rattle.ix_closure.proofs.TidyCauses.{HasCause, IsSingle, IsBroughtOnce, tidy_by, tidy_caused, tidy_once, cause_grows}
 
 -- the n-th owed step was done on the bank with the log, and brought more
 pub record IsDone (plan : Parts) (old new : State) (n : ℕ) (log : List Fact) (step : Owed) (more : List Owed) : Type 0 where
