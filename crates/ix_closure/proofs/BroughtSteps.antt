@@ -43,10 +43,10 @@ FollowsOf : Parts → Fact → List Owed → Type 0
 FollowsOf plan (fact.Claim s l p) more = FollowsDesc plan s l p more
 FollowsOf plan f more = ⊥
 
--- the claim of a descriptor
-claim_for : Fact → List Owed
-claim_for (fact.Desc s l p) = Claim s l p ∷ []
-claim_for f = []
+-- the claim of a descriptor, alone
+claim_alone : Fact → List Owed
+claim_alone (fact.Desc s l p) = Claim s l p ∷ []
+claim_alone f = []
 
 -- what an edge or an end gives with the ends or edges of its cluster
 joins_of : List Fact → Fact → List Owed
@@ -159,7 +159,7 @@ module _ (plan : Parts) (planned : IsPlanned plan) (Mine Before After : Fact →
   -- an arrival
   module _ (sub : Sub) where
     pub arrival_brings : (more : List Owed) → Moves Mine Before After log (log_after plan log (Arrive sub)) → Follows plan log (Arrive sub) more → Brings plan Before After (Arrive sub) more
-    unfolding claim_for IsBeside
+    unfolding claim_alone IsBeside
     arrival_brings more m follows =
         subst (Brings plan Before After (Arrive sub)) (sym follows)
         (active (Arrive sub) (claim_of (cond (has log (fact.Desc sub.slot sub.left sub.right)) Known Fresh) sub) m
@@ -168,7 +168,7 @@ module _ (plan : Parts) (planned : IsPlanned plan) (Mine Before After : Fact →
       where
         claimed : (s l p : ℕ) (b : Bool) → b ≡ false → fact.Desc sub.slot sub.left sub.right ≡ fact.Desc s l p → Contains (claim_of (cond b Known Fresh) sub) (Claim s l p)
         claimed s l p true w e = absurd (cc)
-        claimed s l p false w e = subst (λ f. Contains (claim_for f) (Claim s l p)) (sym e) (first_has (Claim s l p) [])
+        claimed s l p false w e = subst (λ f. Contains (claim_alone f) (Claim s l p)) (sym e) (first_has (Claim s l p) [])
 
         newly : (x : Owed) → IsNewlyDue plan (λ f. (fact.Part sub ≡ f) ⊎ IsBeside plan log (Arrive sub) f) After x → Contains (claim_of (cond (has log (fact.Desc sub.slot sub.left sub.right)) Known Fresh) sub) x
         newly x (by_desc s l p (inl w)) = absurd (cc)

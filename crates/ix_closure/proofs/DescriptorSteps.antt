@@ -10,7 +10,7 @@ use Rattle.ix_model.specs.Numbered.{terminal_at}
 use Rattle.ix_model.specs.Parts.{Parts}
 use Rattle.ix_model.specs.Planned.{IsPlanned}
 use Rattle.ix_model.specs.Slots.{info_at, sym_after}
-use Rattle.ix_model.proofs.SlotReaders.{next_reads, last_reads, reads_next}
+use Rattle.ix_model.proofs.SlotReaders.{next_reads, last_reads, reads_next, reads_last}
 use Rattle.ix_cluster.specs.declared.fact.Fact.{Fact}
 use Rattle.ix_cluster.specs.declared.fact.Fact.TheVariants as fact
 use Rattle.ix_cluster.proofs.Members.{one_has, none_has}
@@ -40,6 +40,19 @@ FollowsBy plan s l p (Some (sy.Term t shown)) more =
     ((e : ℕ) × IsTerminal plan (sy.Term t shown) p e × (more ≡ Arrive (sub_of (s + 1) l p e) ∷ [])) ⊎ (((e : ℕ) → IsTerminal plan (sy.Term t shown) p e → ⊥) × (more ≡ []))
 
 module _ (plan : Parts) (planned : IsPlanned plan) (s l p : ℕ) where
+  -- in the words of the closure
+  pub reads_follows : (o : Option Sym) (more : List Owed) → s < length plan.slots → sym_after plan s ≡ o → FollowsBy plan s l p o more → FollowsDesc plan s l p more
+  reads_follows None more h e w =
+      subst (FollowsDesc plan s l p) (sym w) (ends (info_at plan s).head (reads_last plan planned s (info_at plan s).head (h, refl, e)))
+  reads_follows (Some (sy.Rule r mark)) more h e w =
+      subst (FollowsDesc plan s l p) (sym w) (calls r (s + 1) mark (reads_next plan planned s (s + 1) (sy.Rule r mark) (h, e, refl)))
+  reads_follows (Some (sy.Insert n)) more h e w =
+      subst (FollowsDesc plan s l p) (sym w) (inserts n (s + 1) (reads_next plan planned s (s + 1) (sy.Insert n) (h, e, refl)))
+  reads_follows (Some (sy.Term t shown)) more h e (inl (d, m, w)) =
+      subst (FollowsDesc plan s l p) (sym w) (passes (sy.Term t shown) (s + 1) d (reads_next plan planned s (s + 1) (sy.Term t shown) (h, e, refl)) m)
+  reads_follows (Some (sy.Term t shown)) more h e (inr (none, w)) =
+      subst (FollowsDesc plan s l p) (sym w) (stops t shown (s + 1) (reads_next plan planned s (s + 1) (sy.Term t shown) (h, e, refl)) none)
+
   by_symbol : (x : Sym) (more : List Owed) → sym_after plan s ≡ Some x → FollowsBy plan s l p (Some x) more → FollowsBy plan s l p (sym_after plan s) more
   by_symbol x more e w = subst (λ o. FollowsBy plan s l p o more) (sym e) w
 

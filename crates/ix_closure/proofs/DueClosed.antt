@@ -14,7 +14,7 @@ use Rattle.ix_closure.proofs.RecordedFacts.{recorded_closed}
 
 module _ (plan : Parts) (Holds : Fact → Type 0) (true_fact : (f : Fact) → Holds f → IsInClosed plan f) where
   -- what a due step is to record
-  due_closed : (o : Owed) → IsDue plan Holds o → IsInClosed plan (fact_of o)
+  pub due_closed : (o : Owed) → IsDue plan Holds o → IsInClosed plan (fact_of o)
   due_closed o (claim s l p h) = true_fact (fact.Desc s l p) h
   due_closed o (passed s l p after e x h n t) = closed.scanned s l p after e x (true_fact (fact.Claim s l p) h) n t
   due_closed o (inserted s l p after n h next) = closed.inserted s l p after n (true_fact (fact.Claim s l p) h) next
