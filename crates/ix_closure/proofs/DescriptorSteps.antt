@@ -56,6 +56,7 @@ module _ (plan : Parts) (planned : IsPlanned plan) (s l p : ℕ) where
   by_symbol : (x : Sym) (more : List Owed) → sym_after plan s ≡ Some x → FollowsBy plan s l p (Some x) more → FollowsBy plan s l p (sym_after plan s) more
   by_symbol x more e w = subst (λ o. FollowsBy plan s l p o more) (sym e) w
 
+  -- and back
   pub follows_reads : (more : List Owed) → FollowsDesc plan s l p more → FollowsBy plan s l p (sym_after plan s) more
   follows_reads more (passes x after e next m) =
       let r = next_reads plan planned s after x next in
@@ -82,7 +83,7 @@ module _ (plan : Parts) (planned : IsPlanned plan) (s l p : ℕ) where
   one_by (Some (sy.Term t shown)) a b (inr (none, v)) (inl (e, n, w)) = absurd (none e n)
   one_by (Some (sy.Term t shown)) a b (inr (none, v)) (inr (none', w)) = v ∙ sym w
 
-  -- a descriptor brings one list of steps
+  -- so a descriptor brings one list of steps
   pub follows_same : (a b : List Owed) → FollowsDesc plan s l p a → FollowsDesc plan s l p b → a ≡ b
   follows_same a b v w = one_by (sym_after plan s) a b (follows_reads a v) (follows_reads b w)
 

@@ -1,4 +1,4 @@
--- The first slots of a rule's alternatives differ.
+-- The first slots of a rule's alternatives have the dot at the beginning, and each stands there once.
 use Rattle.std.proofs.Common.{◌≡◌, ℕ, ◌<◌, [], length, Contains, Option, Some, None, slice_get, option_map, unwrap_or, refl, sym, ap, subst, arith}
 use Rattle.std.specs.List.{range_with_len}
 use Rattle.std.proofs.lemmas.List.FromFn.{length-map-range_with_len}

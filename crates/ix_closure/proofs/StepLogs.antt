@@ -45,6 +45,22 @@ IsBeside plan log (Edge r k s l) f = (has log (fact.Called r k) ≡ false) × ((
 IsBeside plan log (End r k e) f = ⊥
 IsBeside plan log (Arrive sub) f = (has log (fact.Desc sub.slot sub.left sub.right) ≡ false) × (fact.Desc sub.slot sub.left sub.right ≡ f)
 
+-- no claim, no edge and no end stands beside another fact
+abbrev pub CanStandBeside : Fact → Type 0
+CanStandBeside (fact.Claim s l p) = ⊥
+CanStandBeside (fact.Edge r k s l) = ⊥
+CanStandBeside (fact.End r k e) = ⊥
+CanStandBeside _ = Unit {0}
+
+pub beside_can : (plan : Parts) (log : List Fact) (o : Owed) (f : Fact) → IsBeside plan log o f → CanStandBeside f
+unfolding IsBeside IsBegun
+beside_can plan log (Claim s l p) f b = absurd b
+beside_can plan log (Edge r k s l) f (n, inl e) = subst CanStandBeside e tt
+beside_can plan log (Edge r k s l) f (n, inr (z, h, inl e)) = subst CanStandBeside e tt
+beside_can plan log (Edge r k s l) f (n, inr (z, h, inr (w, e))) = subst CanStandBeside e tt
+beside_can plan log (End r k e) f b = absurd b
+beside_can plan log (Arrive sub) f (n, e) = subst CanStandBeside e tt
+
 -- what a log has after a step it had before, or it is the step's own fact, or one beside it
 pub log_from : (plan : Parts) (log : List Fact) (o : Owed) (f : Fact) → Contains (log_after plan log o) f → Contains log f ⊎ ((fact_of o ≡ f) ⊎ IsBeside plan log o f)
 unfolding IsBeside

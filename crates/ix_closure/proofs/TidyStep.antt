@@ -29,7 +29,7 @@ use Rattle.ix_closure.proofs.ListCounts.{count_remove}
 use Rattle.ix_closure.proofs.ListMembers.{nth_has, left_was}
 use Rattle.ix_closure.proofs.LogCounts.{count_set, count_after}
 use Rattle.ix_closure.proofs.OwedTimes.{times_some, times_none, times_append, times_taken, times_left, fact_of_same}
-use Rattle.ix_closure.proofs.StepLogs.{IsBeside, newly_recorded}
+use Rattle.ix_closure.proofs.StepLogs.{IsBeside, beside_can, newly_recorded}
 use Rattle.ix_closure.proofs.TidyCauses.{HasCause, IsSingle, IsBroughtOnce, tidy_by, tidy_caused, tidy_once, cause_grows}
 
 -- the n-th owed step was done on the bank with the log, and brought more
@@ -70,19 +70,12 @@ module _ (plan : Parts) (planned : IsPlanned plan) (old new : State) (n : ℕ) (
   -- beside its own fact a step records none that a due step other than an end is to record
   beside_none : (o x : Owed) → IsSingle x → FollowsIn plan new.banks x → IsBeside plan log o (fact_of x) → ⊥
   unfolding IsBeside IsBegun
-  beside_none (Claim s l p) x single due h = h
-  beside_none (End r k e) x single due h = h
-  beside_none (Arrive sub) (Claim s l p) single due (n, h) = cc
-  beside_none (Arrive sub) (Edge r k s l) single due (n, h) = cc
-  beside_none (Arrive sub) (Arrive sub') single due (n, h) = cc
-  beside_none (Arrive sub) (End r k e) single due h = single
-  beside_none (Edge r k s l) (Claim s' l' p') single due (e, inl h) = cc
-  beside_none (Edge r k s l) (Claim s' l' p') single due (e, inr (t, m, inl h)) = cc
-  beside_none (Edge r k s l) (Claim s' l' p') single due (e, inr (t, m, inr (z, h))) = cc
-  beside_none (Edge r k s l) (Edge r' k' s' l') single due (e, inl h) = cc
-  beside_none (Edge r k s l) (Edge r' k' s' l') single due (e, inr (t, m, inl h)) = cc
-  beside_none (Edge r k s l) (Edge r' k' s' l') single due (e, inr (t, m, inr (z, h))) = cc
-  beside_none (Edge r k s l) (End r' k' e') single due h = single
+  beside_none o (Claim s l p) single due b = beside_can plan log o (fact.Claim s l p) b
+  beside_none o (Edge r k s l) single due b = beside_can plan log o (fact.Edge r k s l) b
+  beside_none o (End r k e) single due b = single
+  beside_none (Claim s l p) (Arrive sub) single due b = b
+  beside_none (End r k e) (Arrive sub) single due b = b
+  beside_none (Arrive sub') (Arrive sub) single due (n, h) = cc
   beside_none (Edge r k s l) (Arrive sub) single due (e, inl h) = cc
   beside_none (Edge r k s l) (Arrive sub) single due (e, inr (t, m, inl h)) = cc
   beside_none (Edge r k s l) (Arrive sub) single due (e, inr (t, m, inr (z, h))) =
