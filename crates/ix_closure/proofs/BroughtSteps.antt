@@ -30,7 +30,7 @@ use Rattle.ix_closure.proofs.DueCauses.{cause_of, edge_next}
 use Rattle.ix_closure.proofs.ListMembers.{map_has, map_from}
 use Rattle.ix_closure.proofs.NewlyDue.{IsNewlyDue, by_desc, by_claim, by_edge, by_end, due_grows, due_split}
 use Rattle.ix_closure.proofs.RecordedFacts.{Moves}
-use Rattle.ix_closure.proofs.StepLogs.{IsBeside, newly_recorded}
+use Rattle.ix_closure.proofs.StepLogs.{IsBeside, beside_can, newly_recorded}
 
 -- the step has recorded its fact, and what is due behind it was due before or is among the further steps
 pub record Brings (plan : Parts) (Before After : Fact → Type 0) (o : Owed) (more : List Owed) : Type 0 where
@@ -72,31 +72,37 @@ module _ (plan : Parts) (planned : IsPlanned plan) (Mine Before After : Fact →
     causes = λ x h. absurd (none_has x h);
   }
 
-  -- a step that records its fact
-  active : (o : Owed) (more : List Owed) → Moves Mine Before After log (log_after plan log o) → After (fact_of o) → ((x : Owed) → IsNewlyDue plan (λ f. (fact_of o ≡ f) ⊎ IsBeside plan log o f) After x → Contains more x) → ((x : Owed) → Contains more x → IsDue plan After x) → Brings plan Before After o more
-  active o more m made newly causes = record {
+  -- a step that records its fact, and perhaps descriptors beside it
+  active : (o : Owed) (more : List Owed) → Moves Mine Before After log (log_after plan log o) → After (fact_of o) → ((x : Owed) → IsNewlyDue plan (λ f. fact_of o ≡ f) After x → Contains more x) → ((s l p : ℕ) → IsBeside plan log o (fact.Desc s l p) → Contains more (Claim s l p)) → ((x : Owed) → Contains more x → IsDue plan After x) → Brings plan Before After o more
+  active o more m made own descs causes = record {
     done = made;
     newly = λ x d. elim (due_split plan Before After (λ f. (fact_of o ≡ f) ⊎ IsBeside plan log o f) (newly_recorded plan Mine Before After log o m) x d) [ inl b ↦ inl b | inr n ↦ inr (newly x n) ];
     causes = causes;
   }
+    where
+      newly : (x : Owed) → IsNewlyDue plan (λ f. (fact_of o ≡ f) ⊎ IsBeside plan log o f) After x → Contains more x
+      newly x (by_desc s l p (inl e)) = own x (by_desc s l p e)
+      newly x (by_desc s l p (inr b)) = descs s l p b
+      newly x (by_claim s l p y (inl e) w) = own x (by_claim s l p y e w)
+      newly x (by_claim s l p y (inr b) w) = absurd (beside_can plan log o (fact.Claim s l p) b)
+      newly x (by_edge r k s l e after mark (inl w) end next) = own x (by_edge r k s l e after mark w end next)
+      newly x (by_edge r k s l e after mark (inr b) end next) = absurd (beside_can plan log o (fact.Edge r k s l) b)
+      newly x (by_end r k s l e after mark edge (inl w) next) = own x (by_end r k s l e after mark edge w next)
+      newly x (by_end r k s l e after mark edge (inr b) next) = absurd (beside_can plan log o (fact.End r k e) b)
 
   -- a claim
   module _ (s l p : ℕ) where
     claim_new : (more : List Owed) → Moves Mine Before After log (log_after plan log (Claim s l p)) → After (fact.Claim s l p) → FollowsDesc plan s l p more → Brings plan Before After (Claim s l p) more
     unfolding FollowsOf IsBeside
-    claim_new more m made follows = active (Claim s l p) more m made newly (λ x h. follows_due plan After s l p more x made follows h)
+    claim_new more m made follows = active (Claim s l p) more m made newly (λ a b c none. absurd none) (λ x h. follows_due plan After s l p more x made follows h)
       where
-        newly : (x : Owed) → IsNewlyDue plan (λ f. (fact.Claim s l p ≡ f) ⊎ IsBeside plan log (Claim s l p) f) After x → Contains more x
-        newly x (by_desc a b c (inl e)) = absurd (cc)
-        newly x (by_claim a b c o (inl e) w) =
+        newly : (x : Owed) → IsNewlyDue plan (λ f. fact.Claim s l p ≡ f) After x → Contains more x
+        newly x (by_desc a b c e) = absurd (cc)
+        newly x (by_claim a b c o e w) =
             let here : FollowsDesc plan s l p (o ∷ []) = subst (λ f. FollowsOf plan f (o ∷ [])) (sym e) w in
             subst (λ (z : List Owed). Contains z o) (follows_same plan planned s l p (o ∷ []) more here follows) (first_has o [])
-        newly x (by_edge a b c d e after mark (inl w) end next) = absurd (cc)
-        newly x (by_end a b c d e after mark edge (inl w) next) = absurd (cc)
-        newly x (by_desc a b c (inr none)) = absurd none
-        newly x (by_claim a b c o (inr none) w) = absurd none
-        newly x (by_edge a b c d e after mark (inr none) end next) = absurd none
-        newly x (by_end a b c d e after mark edge (inr none) next) = absurd none
+        newly x (by_edge a b c d e after mark w end next) = absurd (cc)
+        newly x (by_end a b c d e after mark edge w next) = absurd (cc)
 
     pub claim_brings : (more : List Owed) → IsDue plan Before (Claim s l p) → Mine (fact.Desc s l p) → Moves Mine Before After log (log_after plan log (Claim s l p)) → Follows plan log (Claim s l p) more → Brings plan Before After (Claim s l p) more
     claim_brings more due mine m follows = by (has log (fact.Desc s l p)) (has log (fact.Claim s l p)) refl refl m follows
@@ -116,13 +122,13 @@ module _ (plan : Parts) (planned : IsPlanned plan) (Mine Before After : Fact →
   module _ (r k e : ℕ) (mine : (s l : ℕ) → Mine (fact.Edge r k s l)) where
     end_new : Moves Mine Before After log (put log (fact.End r k e)) → Brings plan Before After (End r k e) (map (arrival k e) (edges_in log (cluster r k)))
     unfolding joins_of edge_at IsBeside
-    end_new m = active (End r k e) (map (arrival k e) (edges_in log (cluster r k))) m made newly causes
+    end_new m = active (End r k e) (map (arrival k e) (edges_in log (cluster r k))) m made newly (λ s l p none. absurd none) causes
       where
         made : After (fact.End r k e)
         made = m.made (fact.End r k e) (put-there log (fact.End r k e))
 
         old_edge : (r' k' s l : ℕ) → After (fact.Edge r' k' s l) → Before (fact.Edge r' k' s l)
-        old_edge r' k' s l h = elim (newly_recorded plan Mine Before After log (End r k e) m (fact.Edge r' k' s l) h) [ inl b ↦ b | inr n ↦ elim n [ inl w ↦ absurd (cc w) | inr none ↦ absurd none ] ]
+        old_edge r' k' s l h = elim (newly_recorded plan Mine Before After log (End r k e) m (fact.Edge r' k' s l) h) [ inl b ↦ b | inr n ↦ elim n [ inl w ↦ absurd (cc w) | inr b ↦ absurd (beside_can plan log (End r k e) (fact.Edge r' k' s l) b) ] ]
 
         met : (r' k' s l e' after : ℕ) (mark : Option Mark) → Before (fact.Edge r' k' s l) → fact.End r k e ≡ fact.End r' k' e' → HasNext plan s after (sy.Rule r' mark) → Contains (map (arrival k e) (edges_in log (cluster r k))) (Arrive (sub_of after l k' e'))
         met r' k' s l e' after mark edge w next =
@@ -132,15 +138,11 @@ module _ (plan : Parts) (planned : IsPlanned plan) (Mine Before After : Fact →
             subst (λ n. Contains (map (arrival k e) (edges_in log (cluster r k))) (Arrive (sub_of n l k' e'))) number
             (subst (λ f. Contains (joins_of log f) (Arrive (sub_of (s + 1) l k' e'))) (sym w) in_list)
 
-        newly : (x : Owed) → IsNewlyDue plan (λ f. (fact.End r k e ≡ f) ⊎ IsBeside plan log (End r k e) f) After x → Contains (map (arrival k e) (edges_in log (cluster r k))) x
-        newly x (by_desc a b c (inl w)) = absurd (cc)
-        newly x (by_claim a b c o (inl w) f) = absurd (cc)
-        newly x (by_edge a b c d x' after mark (inl w) end next) = absurd (cc)
-        newly x (by_end r' k' s l e' after mark edge (inl w) next) = met r' k' s l e' after mark (old_edge r' k' s l edge) w next
-        newly x (by_desc a b c (inr none)) = absurd none
-        newly x (by_claim a b c o (inr none) f) = absurd none
-        newly x (by_edge a b c d x' after mark (inr none) end next) = absurd none
-        newly x (by_end r' k' s l e' after mark edge (inr none) next) = absurd none
+        newly : (x : Owed) → IsNewlyDue plan (λ f. fact.End r k e ≡ f) After x → Contains (map (arrival k e) (edges_in log (cluster r k))) x
+        newly x (by_desc a b c w) = absurd (cc)
+        newly x (by_claim a b c o w f) = absurd (cc)
+        newly x (by_edge a b c d x' after mark w end next) = absurd (cc)
+        newly x (by_end r' k' s l e' after mark edge w next) = met r' k' s l e' after mark (old_edge r' k' s l edge) w next
 
         causes : (x : Owed) → Contains (map (arrival k e) (edges_in log (cluster r k))) x → IsDue plan After x
         causes x h =
@@ -164,21 +166,17 @@ module _ (plan : Parts) (planned : IsPlanned plan) (Mine Before After : Fact →
         subst (Brings plan Before After (Arrive sub)) (sym follows)
         (active (Arrive sub) (claim_of (cond (has log (fact.Desc sub.slot sub.left sub.right)) Known Fresh) sub) m
         (m.made (fact.Part sub) (put-keeps (put log (fact.Part sub)) (fact.Desc sub.slot sub.left sub.right) (fact.Part sub) (put-there log (fact.Part sub))))
-        newly (λ x h. causes (has log (fact.Desc sub.slot sub.left sub.right)) x h))
+        newly (λ s l p b. claimed s l p (has log (fact.Desc sub.slot sub.left sub.right)) b.0 b.1) (λ x h. causes (has log (fact.Desc sub.slot sub.left sub.right)) x h))
       where
         claimed : (s l p : ℕ) (b : Bool) → b ≡ false → fact.Desc sub.slot sub.left sub.right ≡ fact.Desc s l p → Contains (claim_of (cond b Known Fresh) sub) (Claim s l p)
         claimed s l p true w e = absurd (cc)
         claimed s l p false w e = subst (λ f. Contains (claim_alone f) (Claim s l p)) (sym e) (first_has (Claim s l p) [])
 
-        newly : (x : Owed) → IsNewlyDue plan (λ f. (fact.Part sub ≡ f) ⊎ IsBeside plan log (Arrive sub) f) After x → Contains (claim_of (cond (has log (fact.Desc sub.slot sub.left sub.right)) Known Fresh) sub) x
-        newly x (by_desc s l p (inl w)) = absurd (cc)
-        newly x (by_desc s l p (inr (n, w))) = claimed s l p (has log (fact.Desc sub.slot sub.left sub.right)) n w
-        newly x (by_claim a b c o (inl w) f) = absurd (cc)
-        newly x (by_claim a b c o (inr (n, w)) f) = absurd (cc)
-        newly x (by_edge a b c d e after mark (inl w) end next) = absurd (cc)
-        newly x (by_edge a b c d e after mark (inr (n, w)) end next) = absurd (cc)
-        newly x (by_end a b c d e after mark edge (inl w) next) = absurd (cc)
-        newly x (by_end a b c d e after mark edge (inr (n, w)) next) = absurd (cc)
+        newly : (x : Owed) → IsNewlyDue plan (λ f. fact.Part sub ≡ f) After x → Contains (claim_of (cond (has log (fact.Desc sub.slot sub.left sub.right)) Known Fresh) sub) x
+        newly x (by_desc a b c w) = absurd (cc)
+        newly x (by_claim a b c o w f) = absurd (cc)
+        newly x (by_edge a b c d e after mark w end next) = absurd (cc)
+        newly x (by_end a b c d e after mark edge w next) = absurd (cc)
 
         causes : (b : Bool) (x : Owed) → Contains (claim_of (cond b Known Fresh) sub) x → IsDue plan After x
         causes true x h = absurd (none_has x h)
@@ -195,18 +193,10 @@ module _ (plan : Parts) (planned : IsPlanned plan) (Mine Before After : Fact →
     abbrev met_ends : List Owed
     met_ends = map (λ e. arrival k e (record { slot = s; left = l })) (ends_in log (cluster r k))
 
-    -- it records no end, no claim, and no other edge
-    no_other : (f : Fact) → ((z : ℕ) → fact.Desc z k k ≡ f → ⊥) → ((sub : Sub) → fact.Part sub ≡ f → ⊥) → (fact.Called r k ≡ f → ⊥) → (fact.Edge r k s l ≡ f → ⊥) → (fact.Edge r k s l ≡ f) ⊎ IsBeside plan log (Edge r k s l) f → ⊥
-    unfolding IsBeside IsBegun
-    no_other f desc part called edge (inl e) = edge e
-    no_other f desc part called edge (inr (n, inl e)) = called e
-    no_other f desc part called edge (inr (n, inr (z, h, inl e))) = desc z e
-    no_other f desc part called edge (inr (n, inr (z, h, inr (w, e)))) = part (sub_of z k k k) e
-
     edge_new : has log (fact.Edge r k s l) ≡ false → Moves Mine Before After log (log_after plan log (Edge r k s l)) → IsInClosed plan (fact.Edge r k s l) → Brings plan Before After (Edge r k s l) (claims ++ met_ends)
     unfolding IsBeside IsBegun joins_of end_at
     edge_new new m closed =
-        active (Edge r k s l) (claims ++ met_ends) m made newly
+        active (Edge r k s l) (claims ++ met_ends) m made newly descs
         (λ x h. elim (Contains-append_cases claims met_ends x h) [ inl c ↦ claims_due (has log (fact.Called r k)) refl x c | inr a ↦ arrivals_due x a ])
       where
         recorded : (f : Fact) → Contains (put (after_call plan log r k) (fact.Edge r k s l)) f → After f
@@ -216,7 +206,7 @@ module _ (plan : Parts) (planned : IsPlanned plan) (Mine Before After : Fact →
         made = recorded (fact.Edge r k s l) (put-there (after_call plan log r k) (fact.Edge r k s l))
 
         old_end : (r' k' e : ℕ) → After (fact.End r' k' e) → Before (fact.End r' k' e)
-        old_end r' k' e h = elim (newly_recorded plan Mine Before After log (Edge r k s l) m (fact.End r' k' e) h) [ inl b ↦ b | inr n ↦ absurd (no_other (fact.End r' k' e) (λ z w. cc) (λ z w. cc) (λ w. cc) (λ w. cc) n) ]
+        old_end r' k' e h = elim (newly_recorded plan Mine Before After log (Edge r k s l) m (fact.End r' k' e) h) [ inl b ↦ b | inr n ↦ elim n [ inl w ↦ absurd (cc w) | inr b ↦ absurd (beside_can plan log (Edge r k s l) (fact.End r' k' e) b) ] ]
 
         claimed : (z s' l' p : ℕ) (c : Bool) → c ≡ false → Contains (firsts_of plan r) z → fact.Desc z k k ≡ fact.Desc s' l' p → Contains (cond (not c) (claims_at k (firsts_of plan r)) []) (Claim s' l' p)
         claimed z s' l' p true w h e = absurd (cc)
@@ -231,17 +221,16 @@ module _ (plan : Parts) (planned : IsPlanned plan) (Mine Before After : Fact →
             let number : s' + 1 ≡ after = sym (next_reads plan planned s' after (sy.Rule r' mark) next).2 in
             subst (λ n. Contains met_ends (Arrive (sub_of n l' k' e))) number (subst (λ f. Contains (joins_of log f) (Arrive (sub_of (s' + 1) l' k' e))) (sym w) in_list)
 
-        newly : (x : Owed) → IsNewlyDue plan (λ f. (fact.Edge r k s l ≡ f) ⊎ IsBeside plan log (Edge r k s l) f) After x → Contains (claims ++ met_ends) x
-        newly x (by_desc s' l' p (inl e)) = absurd (cc)
-        newly x (by_desc s' l' p (inr (n, inl e))) = absurd (cc)
-        newly x (by_desc s' l' p (inr (n, inr (z, h, inl e)))) = Contains-append_left claims met_ends (Claim s' l' p) (claimed z s' l' p (has log (fact.Called r k)) n h e)
-        newly x (by_desc s' l' p (inr (n, inr (z, h, inr (w, e))))) = absurd (cc)
-        newly x (by_claim s' l' p o n f) = absurd (no_other (fact.Claim s' l' p) (λ z w. cc) (λ z w. cc) (λ w. cc) (λ w. cc) n)
-        newly x (by_end a b c d e after mark edge n next) = absurd (no_other (fact.End a b e) (λ z w. cc) (λ z w. cc) (λ w. cc) (λ w. cc) n)
-        newly x (by_edge r' k' s' l' e after mark (inl w) end next) = Contains-append_right claims met_ends (Arrive (sub_of after l' k' e)) (met r' k' s' l' e after mark w (old_end r' k' e end) next)
-        newly x (by_edge r' k' s' l' e after mark (inr (n, inl w)) end next) = absurd (cc)
-        newly x (by_edge r' k' s' l' e after mark (inr (n, inr (z, h, inl w))) end next) = absurd (cc)
-        newly x (by_edge r' k' s' l' e after mark (inr (n, inr (z, h, inr (v, w)))) end next) = absurd (cc)
+        newly : (x : Owed) → IsNewlyDue plan (λ f. fact.Edge r k s l ≡ f) After x → Contains (claims ++ met_ends) x
+        newly x (by_desc a b c w) = absurd (cc)
+        newly x (by_claim a b c o w f) = absurd (cc)
+        newly x (by_edge r' k' s' l' e after mark w end next) = Contains-append_right claims met_ends (Arrive (sub_of after l' k' e)) (met r' k' s' l' e after mark w (old_end r' k' e end) next)
+        newly x (by_end a b c d e after mark edge w next) = absurd (cc)
+
+        descs : (s' l' p : ℕ) → IsBeside plan log (Edge r k s l) (fact.Desc s' l' p) → Contains (claims ++ met_ends) (Claim s' l' p)
+        descs s' l' p (n, inl e) = absurd (cc)
+        descs s' l' p (n, inr (z, h, inl e)) = Contains-append_left claims met_ends (Claim s' l' p) (claimed z s' l' p (has log (fact.Called r k)) n h e)
+        descs s' l' p (n, inr (z, h, inr (w, e))) = absurd (cc)
 
         claims_due : (c : Bool) → has log (fact.Called r k) ≡ c → (x : Owed) → Contains (cond (not c) (claims_at k (firsts_of plan r)) []) x → IsDue plan After x
         claims_due true w x h = absurd (none_has x h)
