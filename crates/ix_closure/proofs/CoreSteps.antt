@@ -1,6 +1,6 @@
 -- A step of a core is an event.
-use Rattle.std.proofs.Common.{◌≡◌, ℕ, ◌+◌, ◌<◌, ◌%◌, ◌^◌, zero, suc, List, [], ◌∷◌, length, Some, slice_get, slice_set, get_or, Result, Ok, Err, OnOk, OnErr, is_err, false, refl, sym, ap, ◌∙◌, subst, arith}
-use Rattle.std.proofs.lemmas.Option.{slice_get-get_or}
+use Rattle.std.proofs.Common.{◌≡◌, ℕ, ◌+◌, ◌^◌, ◌<◌, List, length, get_or, Some, slice_get, slice_set, Result, Ok, Err, OnOk, OnErr, refl, sym, ap, ◌∙◌, subst, arith}
+use Rattle.std.proofs.lemmas.Option.{slice_get_read}
 use Rattle.ix_model.specs.Parts.{Parts}
 use Rattle.ix_model.specs.Planned.{IsPlanned}
 use Rattle.ix_cluster.specs.declared.fact.Fact.{Fact}
@@ -10,32 +10,24 @@ use Rattle.ix_cluster.specs.Room.{unclaimed_in}
 use Rattle.ix_cluster.specs.Seen.{Bank}
 use Rattle.ix_closure.specs.declared.owed.Owed.{Owed}
 use Rattle.ix_closure.specs.Balance.{IsBalanced}
-use Rattle.ix_closure.specs.Due.{IsRecorded}
 use Rattle.ix_closure.specs.Events.{Event, bank_after, home_for}
 use Rattle.ix_closure.specs.Follows.{fact_of}
 use Rattle.ix_closure.specs.Ready.{HasSlot, IsReady, IsReplaced}
 use Rattle.ix_closure.specs.Seen.{State}
-use Rattle.ix_closure.proofs.Balancing.{event_balanced}
-use Rattle.ix_closure.proofs.Causes.{due_closed}
-use Rattle.ix_closure.proofs.Members.{nth_has}
+use Rattle.ix_closure.proofs.DueClosed.{owed_closed}
+use Rattle.ix_closure.proofs.EventBalance.{event_balanced}
+use Rattle.ix_closure.proofs.ListMembers.{nth_has}
+use Rattle.ix_closure.proofs.ListUpdates.{set_same}
 use Rattle.ix_closure.proofs.Readiness.{step_slot, step_ready}
-use Rattle.ix_closure.proofs.Recording.{recorded_closed, recorded_by}
-
-at_place : {X : Type 0} (xs : List X) (n : ℕ) (x : X) → n < length xs → x ≡ get_or xs n x → slice_get xs n ≡ Some x
-at_place xs n x h e = slice_get-get_or xs n x h ∙ ap Some (sym e)
-
-set_same : {X : Type 0} (xs : List X) (m : ℕ) (x : X) → slice_get xs m ≡ Some x → slice_set xs m x ≡ xs
-set_same [] m x e = absurd (cc)
-set_same (y ∷ xs) zero x e = let q : x ≡ y = (cc) in ap (λ z. z ∷ xs) q
-set_same (y ∷ xs) (suc m) x e = ap (λ zs. y ∷ zs) (set_same xs m x e)
+use Rattle.ix_closure.proofs.RecordedFacts.{recorded_closed, recorded_by}
 
 -- the n-th owed step is this one
 module _ (plan : Parts) (planned : IsPlanned plan) (old : State) (balanced : IsBalanced plan old) (n : ℕ) (step : Owed) (within : n < length old.owed) (at : step ≡ get_or old.owed n step) where
   taken : slice_get old.owed n ≡ Some step
-  taken = at_place old.owed n step within at
+  taken = slice_get_read old.owed (length old.owed) n step refl within at
 
   closed : IsInClosed plan (fact_of step)
-  closed = due_closed plan (IsRecorded old.banks) (recorded_closed plan old.banks balanced.sound) step (balanced.caused step (nth_has old.owed n step taken))
+  closed = owed_closed plan old balanced step (nth_has old.owed n step taken)
 
   -- its home can be told
   pub has_slot : HasSlot plan step
@@ -44,7 +36,7 @@ module _ (plan : Parts) (planned : IsPlanned plan) (old : State) (balanced : IsB
   -- its bank is there, and it can be done on it
   module _ (m : ℕ) (home : m ≡ home_for plan (length old.banks) step) (bank : Bank) (value : bank ≡ get_or old.banks m bank) where
     there : slice_get old.banks m ≡ Some bank
-    there = at_place old.banks m bank (subst (λ i. i < length old.banks) (sym home) (below (fact_of step))) value
+    there = slice_get_read old.banks (length old.banks) m bank refl (subst (λ i. i < length old.banks) (sym home) (below (fact_of step))) value
       where
         below : (f : Fact) → home_of plan (length old.banks) f < length old.banks
         below f = grind (arith, balanced.sound.some)

@@ -1,13 +1,13 @@
 -- What a due step follows from.
-use Rattle.std.proofs.Common.{◌≡◌, ℕ, ◌+◌, sym, subst, ◌∙◌, Option, Some, arith}
+use Rattle.std.proofs.Common.{◌≡◌, ℕ, ◌+◌, Option, Some, sym, ◌∙◌, subst, arith}
 use Rattle.ix_model.specs.declared.grammar.Mark.{Mark}
 use Rattle.ix_model.specs.declared.rules.Sym.{Sym}
 use Rattle.ix_model.specs.declared.rules.Sym.TheVariants as sy
 use Rattle.ix_model.specs.declared.sub.Sub.{Sub}
+use Rattle.ix_model.specs.Closed as closed
 use Rattle.ix_model.specs.Parts.{Parts}
 use Rattle.ix_model.specs.Planned.{IsPlanned}
 use Rattle.ix_model.specs.SlotPlaces.{HasNext, IsFirst}
-use Rattle.ix_model.specs.Closed as closed
 use Rattle.ix_model.proofs.ClosedLinks.{edge_from}
 use Rattle.ix_model.proofs.SlotPlaces.{same_slot, same_before}
 use Rattle.ix_model.proofs.SlotReaders.{next_reads}
@@ -16,16 +16,6 @@ use Rattle.ix_cluster.specs.declared.fact.Fact.TheVariants as fact
 use Rattle.ix_closure.specs.declared.owed.Owed.{Owed}
 use Rattle.ix_closure.specs.declared.owed.Owed.TheVariants.{Claim, Edge, End, Arrive}
 use Rattle.ix_closure.specs.Due.{IsDue, claim, passed, inserted, waits, ends, meets}
-
--- what follows from facts follows from more facts
-pub due_grows : (plan : Parts) (Before After : Fact → Type 0) → ((f : Fact) → Before f → After f) → (o : Owed) → IsDue plan Before o → IsDue plan After o
-due_grows plan Before After grows o (claim s l p h) = claim s l p (grows (fact.Desc s l p) h)
-due_grows plan Before After grows o (passed s l p after e x h n t) = passed s l p after e x (grows (fact.Claim s l p) h) n t
-due_grows plan Before After grows o (inserted s l p after n h next) = inserted s l p after n (grows (fact.Claim s l p) h) next
-due_grows plan Before After grows o (waits s l p after r mark h next) = waits s l p after r mark (grows (fact.Claim s l p) h) next
-due_grows plan Before After grows o (ends s l p r h last) = ends s l p r (grows (fact.Claim s l p) h) last
-due_grows plan Before After grows o (meets r k s l e after mark edge end next) =
-    meets r k s l e after mark (grows (fact.Edge r k s l) edge) (grows (fact.End r k e) end) next
 
 -- a dot behind a symbol stands at the beginning of no alternative
 pub next_not_first : (plan : Parts) (s after r : ℕ) (x : Sym) → HasNext plan s after x → IsFirst plan after r → ⊥

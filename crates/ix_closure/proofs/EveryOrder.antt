@@ -1,5 +1,5 @@
 -- Every order of steps from the opening goes through tidy states, and ends in the closure.
-use Rattle.std.proofs.Common.{◌≡◌, ℕ, ◌≤◌, List, ◌∷◌, ◌++◌, length, ap, arith}
+use Rattle.std.proofs.Common.{◌≡◌, ℕ, List, length, ap, arith}
 use Rattle.ix_model.specs.Parts.{Parts}
 use Rattle.ix_model.specs.Planned.{IsPlanned}
 use Rattle.ix_cluster.specs.Banks.{opening}
@@ -10,15 +10,15 @@ use Rattle.ix_closure.specs.Orders.{EveryOrder}
 use Rattle.ix_closure.specs.Runs.{Run, rests, goes_on}
 use Rattle.ix_closure.specs.Seen.{State}
 use Rattle.ix_closure.specs.Tidy.{IsTidy}
-use Rattle.ix_closure.proofs.Balancing.{event_balanced}
+use Rattle.ix_closure.proofs.EventBalance.{event_balanced}
+use Rattle.ix_closure.proofs.EventTidy.{event_tidy}
 use Rattle.ix_closure.proofs.FewChoices.{few_choices}
-use Rattle.ix_closure.proofs.OpeningBalance.{opening_balanced}
-use Rattle.ix_closure.proofs.QuietCore.{quiet_closure}
-use Rattle.ix_closure.proofs.Tidying.{event_tidy, opening_tidy}
+use Rattle.ix_closure.proofs.Opening.{opening_balanced, opening_tidy}
+use Rattle.ix_closure.proofs.QuietClosure.{quiet_closure}
 
 module _ (plan : Parts) (planned : IsPlanned plan) (first : State) (banks : first.banks ≡ opening plan 1) (owed : first.owed ≡ claims_at 0 (firsts_of plan 0)) (sound : AreSound plan first.banks) where
   run_tidy : (choices : List ℕ) (last : State) → Run plan first choices last → IsTidy plan last
-  run_tidy choices last rests = opening_tidy plan planned first 1 banks owed (opening_balanced plan planned first banks owed sound)
+  run_tidy choices last rests = opening_tidy plan planned first 1 banks owed (opening_balanced plan first banks owed sound)
   run_tidy choices last (goes_on before n state _ run event) =
       let tidy = run_tidy before state run in
       event_tidy plan planned state n last tidy event (event_balanced plan planned state last n tidy.balanced event)

@@ -1,8 +1,8 @@
 -- A list of choices is no longer than twice the descriptors of the closure, and its pairs of an edge and an end.
-use Rattle.std.proofs.Common.{◌≡◌, ℕ, zero, suc, ◌+◌, ◌≤◌, Bool, true, false, List, [], ◌∷◌, length, length-append, remove, Contains, Some, slice_get, slice_set, refl, sym, ap, ◌∙◌, subst, arith, true≢false}
+use Rattle.std.proofs.Common.{◌≡◌, ℕ, ◌+◌, ◌≤◌, List, [], ◌∷◌, length, length-append, remove, Contains, Some, slice_get, refl, sym, ap, ◌∙◌, arith}
 use Rattle.std.proofs.lemmas.List.{length-map}
-use Rattle.std.proofs.lemmas.List.FromFn.{length-map-range_with_len}
-use Rattle.ix_model.specs.Numbered.{lines_at}
+use Rattle.std.proofs.lemmas.List.Edits.{length-remove}
+use Rattle.std.proofs.lemmas.Option.{slice_get_within}
 use Rattle.ix_model.specs.Parts.{Parts}
 use Rattle.ix_model.specs.Planned.{IsPlanned}
 use Rattle.ix_model.specs.SlotPlaces.{IsFirst}
@@ -10,12 +10,9 @@ use Rattle.ix_model.proofs.SlotReaders.{first_reads}
 use Rattle.ix_cluster.specs.declared.fact.Fact.{Fact}
 use Rattle.ix_cluster.specs.declared.fact.Fact.TheVariants as fact
 use Rattle.ix_cluster.specs.Banks.{opening}
-use Rattle.ix_cluster.specs.Facts.{has}
-use Rattle.ix_cluster.specs.Firsts.{first_slot, firsts_of}
+use Rattle.ix_cluster.specs.Firsts.{firsts_of}
 use Rattle.ix_cluster.specs.Homes.{home}
 use Rattle.ix_cluster.specs.Seen.{Bank}
-use Rattle.ix_cluster.proofs.Beginning.{firsts_are}
-use Rattle.ix_cluster.proofs.Members.{Contains-has, has-Contains}
 use Rattle.ix_closure.specs.declared.owed.Owed.TheVariants.{Claim}
 use Rattle.ix_closure.specs.Closure.{IsClosure}
 use Rattle.ix_closure.specs.Events.{Event, bank_after, home_for}
@@ -24,47 +21,26 @@ use Rattle.ix_closure.specs.Quantity.{step_bound}
 use Rattle.ix_closure.specs.Runs.{Run, rests, goes_on}
 use Rattle.ix_closure.specs.Seen.{State}
 use Rattle.ix_closure.specs.Tidy.{IsTidy}
-use Rattle.ix_closure.proofs.FirstsOnce.{rule_with_alternatives, firsts_once}
-use Rattle.ix_closure.proofs.InClosure.{weight_sound}
-use Rattle.ix_closure.proofs.Paid.{IsFresh, descriptor_call, step_paid}
-use Rattle.ix_closure.proofs.Recording.{recorded_by, recorded_home}
-use Rattle.ix_closure.proofs.Weights.{weight, weight_in}
-
--- one bank changes the weight of all as its own
-weight_set : (banks : List Bank) (m : ℕ) (bank new : Bank) → slice_get banks m ≡ Some bank → weight_in (slice_set banks m new) + weight bank.log ≡ weight_in banks + weight new.log
-weight_set [] m bank new e = absurd (cc e)
-weight_set (b ∷ banks) zero bank new e = let same : b ≡ bank = cc e in omega (arith, ap (λ (x : Bank). weight x.log) same)
-weight_set (b ∷ banks) (suc m) bank new e = omega (arith, weight_set banks m bank new e)
-
--- one fewer is left
-length_removed : {X : Type 0} (xs : List X) (n : ℕ) (x : X) → slice_get xs n ≡ Some x → length (remove xs n) + 1 ≡ length xs
-length_removed [] n x e = absurd (cc e)
-length_removed (y ∷ ys) zero x e = omega arith
-length_removed (y ∷ ys) (suc n) x e = omega (arith, length_removed ys n x e)
+use Rattle.ix_closure.proofs.ClosureWeights.{weight_sound}
+use Rattle.ix_closure.proofs.FirstSlots.{first_of}
+use Rattle.ix_closure.proofs.RecordedFacts.{recorded_by, recorded_here}
+use Rattle.ix_closure.proofs.StepLogs.{has_none, has_not}
+use Rattle.ix_closure.proofs.StepWeights.{IsFresh, descriptor_call, step_paid}
+use Rattle.ix_closure.proofs.Weights.{weight_in, weight_set}
 
 module _ (plan : Parts) (planned : IsPlanned plan) where
-  -- what is among the first slots of a rule is one of its alternatives'
-  first_of : (r s : ℕ) → Contains (firsts_of plan r) s → IsFirst plan s r
-  first_of r s h = firsts_are plan planned r s (rule_with_alternatives plan.rules r (omega (arith, h.1, length-map-range_with_len (first_slot plan r) 0 (length (lines_at plan.rules r))))) h
-
   -- in a tidy state no bank has begun an alternative of a rule that is not called
   tidy_fresh : (state : State) → IsTidy plan state → (m : ℕ) (bank : Bank) → slice_get state.banks m ≡ Some bank → IsFresh plan bank.log
-  tidy_fresh state tidy m bank there r k none s h = by (has bank.log (fact.Desc s k k)) refl
+  tidy_fresh state tidy m bank there r k none s h = has_not bank.log (fact.Desc s k k) (λ d. has_none bank.log (fact.Called r k) none (here d))
     where
       first : IsFirst plan s r
-      first = first_of r s h
+      first = first_of plan planned r s h
 
       here : Contains bank.log (fact.Desc s k k) → Contains bank.log (fact.Called r k)
       here d =
           let called = tidy.first_descs s k k r (recorded_by state.banks m bank (fact.Desc s k k) there d) first in
-          let p = recorded_home plan state.banks tidy.balanced.sound (fact.Called r k) called in
           let home_is : home r k (length state.banks) ≡ m = ap (λ (n : ℕ). home n k (length state.banks)) (sym (first_reads plan s r first).1) ∙ (tidy.balanced.sound.each m bank there).at_home (fact.Desc s k k) d in
-          let same : p.0 ≡ bank = cc (p.1, home_is, there) in
-          subst (λ (b : Bank). Contains b.log (fact.Called r k)) same p.2
-
-      by : (b : Bool) → has bank.log (fact.Desc s k k) ≡ b → has bank.log (fact.Desc s k k) ≡ false
-      by false e = e
-      by true e = absurd (true≢false (sym (has-Contains bank.log (fact.Called r k) (here (Contains-has bank.log (fact.Desc s k k) e))) ∙ none))
+          recorded_here plan state.banks tidy.balanced.sound m bank there (fact.Called r k) home_is called
 
   -- an event adds as much weight as it adds owed steps, and one for itself
   pub event_paid : (old new : State) (n : ℕ) → IsTidy plan old → Event plan old n new → 1 + length new.owed + weight_in old.banks ≤ length old.owed + weight_in new.banks
@@ -74,7 +50,7 @@ module _ (plan : Parts) (planned : IsPlanned plan) where
         arith,
         ap length event.owed,
         length-append (remove old.owed n) event.more,
-        length_removed old.owed n event.step event.taken,
+        length-remove old.owed n (slice_get_within old.owed n event.step event.taken),
         step_paid plan planned event.bank.log (tidy_fresh old tidy m event.bank event.there) event.step event.more event.follows,
         ap weight_in event.done,
         weight_set old.banks m event.bank (bank_after plan event.bank event.step) event.there,
@@ -88,7 +64,7 @@ module _ (plan : Parts) (planned : IsPlanned plan) where
 
   -- the opening bank has a descriptor for each claim that is owed at the start
   opening_paid : length (claims_at 0 (firsts_of plan 0)) ≤ weight_in (opening plan 1)
-  opening_paid = omega (arith, length-map (firsts_of plan 0) (λ s. Claim s 0 0), descriptor_call plan 0 [] 0 refl (firsts_once plan planned 0) (λ s h. refl))
+  opening_paid = omega (arith, length-map (firsts_of plan 0) (λ s. Claim s 0 0), descriptor_call plan 0 planned [] 0 refl (λ s h. refl))
 
   module _ (first : State) (banks_open : first.banks ≡ opening plan 1) (owed_open : first.owed ≡ claims_at 0 (firsts_of plan 0)) (tidy : (c : List ℕ) (s : State) → Run plan first c s → IsTidy plan s) where
     -- as many steps as the list chose, and those that are owed, have made facts

@@ -1,11 +1,9 @@
 -- The closure has few descriptors: their slots and positions are those of the plan.
-use Rattle.std.proofs.Common.{◌≡◌, ℕ, ◌+◌, ◌*◌, ◌≤◌, ◌<◌, true, List, length, map, get_or, Contains, count_by, sym, ◌∙◌, subst, arith}
+use Rattle.std.proofs.Common.{◌≡◌, ℕ, ◌+◌, ◌*◌, ◌<◌, ◌≤◌, true, List, length, map, count_by, Contains, subst, arith}
 use Rattle.std.specs.List.{IsDistinct, flat_map, range_with_len}
 use Rattle.std.proofs.lemmas.List.{length-map}
-use Rattle.std.proofs.lemmas.List.Concat.{length-flat_map}
-use Rattle.std.proofs.lemmas.List.Elements.{All-from_get_or, Contains-get_or}
-use Rattle.std.proofs.lemmas.List.FromFn.{length-range_with_len, get_or-range_with_len}
-use Rattle.std.proofs.lemmas.List.Sums.{sum_by-le, count_by-le-length}
+use Rattle.std.proofs.lemmas.List.FromFn.{length-range_with_len}
+use Rattle.std.proofs.lemmas.List.Sums.{count_by-le-length}
 use Rattle.ix_model.specs.Parts.{Parts}
 use Rattle.ix_model.specs.Planned.{IsPlanned}
 use Rattle.ix_model.proofs.ClosedWithin.{desc_within}
@@ -14,19 +12,17 @@ use Rattle.ix_cluster.specs.declared.fact.Fact.TheVariants.{Desc}
 use Rattle.ix_cluster.specs.Banks.{is_descriptor}
 use Rattle.ix_cluster.specs.ClosedFacts.{IsInClosed}
 use Rattle.ix_cluster.specs.Facts.{same_fact}
-use Rattle.ix_closure.proofs.Members.{map_has, flat_has}
-use Rattle.ix_closure.proofs.Sublists.{tallied, fewer}
-
--- each number below n
-range_has : (n k : ℕ) → k < n → Contains (range_with_len 0 n) k
-range_has n k h = subst (Contains (range_with_len 0 n)) (get_or-range_with_len 0 n k 0 h ∙ omega arith) (Contains-get_or (range_with_len 0 n) k 0 (omega (arith, h, length-range_with_len 0 n)))
+use Rattle.ix_closure.proofs.ListCounts.{length_flat}
+use Rattle.ix_closure.proofs.ListMembers.{map_has, flat_has}
+use Rattle.ix_closure.proofs.LogCounts.{tallied}
+use Rattle.ix_closure.proofs.Ranges.{range_has}
+use Rattle.ix_closure.proofs.Sublists.{fewer}
 
 -- a list of at most m facts for each number below n
 length_each : (f : ℕ → List Fact) (m n : ℕ) → ((k : ℕ) → length (f k) ≤ m) → length (flat_map f (range_with_len 0 n)) ≤ n * m
 length_each f m n each =
     subst (λ (a : ℕ). length (flat_map f (range_with_len 0 n)) ≤ a * m) (length-range_with_len 0 n)
-    (subst (λ (a : ℕ). a ≤ length (range_with_len 0 n) * m) (sym (length-flat_map f (range_with_len 0 n)))
-    (sum_by-le (λ k. length (f k)) m (range_with_len 0 n) (All-from_get_or (λ k. length (f k) ≤ m) (range_with_len 0 n) 0 (λ i l. each (get_or (range_with_len 0 n) i 0)))))
+    (length_flat f m (range_with_len 0 n) (λ k _. each k))
 
 -- the descriptors of a slot and a left end with a position below n, those of a slot with both ends below n, and those of
 -- the slots below a number

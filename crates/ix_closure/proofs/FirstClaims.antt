@@ -1,6 +1,5 @@
 -- The alternatives that begin bring descriptors whose claims are those of their first slots, in order.
-use Rattle.std.proofs.Common.{◌≡◌, ℕ, Bool, true, false, cond, eqb, List, [], ◌∷◌, ◌++◌, Contains, append-nil, append_assoc, refl, sym, ap, ◌∙◌, subst, inl, inr, arith}
-use Rattle.std.proofs.lemmas.Bool.Decides.{nat_tests}
+use Rattle.std.proofs.Common.{◌≡◌, ℕ, Bool, true, false, cond, List, [], ◌∷◌, ◌++◌, Contains, append-nil, append_assoc, refl, sym, ap, ◌∙◌, subst, inl, inr, arith}
 use Rattle.std.proofs.lemmas.List.Elements.{Contains-push_cases}
 use Rattle.ix_model.specs.Parts.{Parts}
 use Rattle.ix_model.specs.Planned.{IsPlanned}
@@ -16,9 +15,9 @@ use Rattle.ix_closure.specs.declared.owed.Owed.{Owed}
 use Rattle.ix_closure.specs.declared.owed.Owed.TheVariants.{Claim}
 use Rattle.ix_closure.specs.Follows.{claims_at, claim_for, claims_for}
 use Rattle.ix_closure.specs.Seen.{State}
-use Rattle.ix_closure.proofs.FirstsOnce.{firsts_once}
-use Rattle.ix_closure.proofs.Members.{filter_has}
-use Rattle.ix_closure.proofs.OnceEach.{IsOnceEach, once_distinct}
+use Rattle.ix_closure.proofs.FirstSlots.{firsts_once}
+use Rattle.ix_closure.proofs.ListMembers.{filter_has}
+use Rattle.ix_closure.proofs.OnceEach.{IsOnceEach}
 
 module _ (plan : Parts) (k : ℕ) where
   -- a descriptor without its claim among the others is not there
@@ -59,7 +58,7 @@ module _ (plan : Parts) (planned : IsPlanned plan) where
   opening_claims =
       sym (
       ap claims_for (append-nil (after_call plan [] 0 0)) ∙
-      claims_firsts plan 0 (firsts_of plan 0) (fact.Called 0 0 ∷ []) (once_distinct eqb (λ n. grind (arith, nat_tests)) (firsts_of plan 0) (firsts_once plan planned 0)) (λ s h c. none_has (Claim s 0 0) c)
+      claims_firsts plan 0 (firsts_of plan 0) (fact.Called 0 0 ∷ []) (firsts_once plan planned 0) (λ s h c. none_has (Claim s 0 0) c)
       )
 
   -- what is owed at the start are the claims of the descriptors there, in their order

@@ -1,8 +1,10 @@
 -- Lists in which each element stands once.
-use Rattle.std.proofs.Common.{◌≡◌, ℕ, zero, suc, ◌+◌, ◌<◌, ◌≤◌, Bool, true, false, List, [], ◌∷◌, Contains, map, Option, Some, None, refl, sym, ◌∙◌, subst, inl, inr, arith, true≢false}
-use Rattle.std.specs.List.{IsDistinct, AllByRecursion, filter_map, cons_option, range_with_len}
-use Rattle.ix_cluster.proofs.Members.{either_has, none_has, rest_has, first_has}
-use Rattle.ix_closure.proofs.Members.{map_from, filter_from}
+use Rattle.std.proofs.Common.{◌≡◌, Bool, true, false, List, [], ◌∷◌, map, Contains, Option, Some, None, refl, sym, ◌∙◌, subst, true≢false}
+use Rattle.std.specs.List.{IsDistinct, filter_map, cons_option}
+use Rattle.std.proofs.lemmas.List.Elements.{All-from_recursion, All-contains}
+use Rattle.std.proofs.lemmas.Map.Keys.{IsDistinct-head, IsDistinct-tail}
+use Rattle.ix_cluster.proofs.Members.{rest_has, first_has}
+use Rattle.ix_closure.proofs.ListMembers.{map_from, filter_from}
 
 module _ {X : Type 0} where
   -- no element stands there twice
@@ -10,18 +12,16 @@ module _ {X : Type 0} where
   IsOnceEach [] = Unit {0}
   IsOnceEach (x ∷ xs) = (Contains xs x → ⊥) × IsOnceEach xs
 
-  apart_from : (e : X → X → Bool) (x : X) (xs : List X) → e x x ≡ true → AllByRecursion (λ y. e x y ≡ false) xs → Contains xs x → ⊥
-  apart_from e x [] same h c = none_has x c
-  apart_from e x (y ∷ ys) same h c = elim (either_has y ys x c) [
-    | inl w ↦ true≢false (sym same ∙ subst (λ z. e x z ≡ false) w h.0)
-    | inr r ↦ apart_from e x ys same h.1 r
-  ]
+module _ {X : Type 0} (e : X → X → Bool) where
+  -- a test by which the elements differ tells the first from those behind it
+  pub distinct_apart : (x : X) (xs : List X) → IsDistinct e (x ∷ xs) → (y : X) → Contains xs y → e x y ≡ false
+  distinct_apart x xs d y h = All-contains (λ y. e x y ≡ false) xs y (All-from_recursion (λ y. e x y ≡ false) xs (IsDistinct-head e x xs d)) h
 
-  -- so it is where a test that finds each element itself finds no two alike
-  pub once_distinct : (e : X → X → Bool) → ((x : X) → e x x ≡ true) → (xs : List X) → IsDistinct e xs → IsOnceEach xs
-  unfolding IsOnceEach IsDistinct
-  once_distinct e same [] h = tt
-  once_distinct e same (x ∷ xs) h = (apart_from e x xs (same x) h.0, once_distinct e same xs h.1)
+  -- so each stands once, where the test finds each element itself
+  pub once_distinct : ((x : X) → e x x ≡ true) → (xs : List X) → IsDistinct e xs → IsOnceEach xs
+  unfolding IsOnceEach
+  once_distinct same [] d = tt
+  once_distinct same (x ∷ xs) d = ((λ c. true≢false (sym (same x) ∙ distinct_apart x xs d x c)), once_distinct same xs (IsDistinct-tail e x xs d))
 
 module _ {X Y : Type 0} where
   -- a map that tells the elements apart keeps it
@@ -42,23 +42,3 @@ module _ {X Y : Type 0} where
       by : (o : Option Y) → f x ≡ o → IsOnceEach (filter_map f xs) → IsOnceEach (cons_option o (filter_map f xs))
       by None e rest = rest
       by (Some y) e rest = ((λ c. let p = filter_from f xs y c in h.0 (subst (Contains xs) (apart p.0 x y p.2 e) p.1)), rest)
-
--- the numbers of a range are between its ends, and each stands there once
-range_from : (n len x : ℕ) → Contains (range_with_len n len) x → n ≤ x
-range_from n zero x c = absurd (none_has x c)
-range_from n (suc len) x c = elim (either_has n (range_with_len (n + 1) len) x c) [
-  | inl e ↦ omega (arith, e)
-  | inr r ↦ omega (arith, range_from (n + 1) len x r)
-]
-
-pub range_within : (n len x : ℕ) → Contains (range_with_len n len) x → x < n + len
-range_within n zero x c = absurd (none_has x c)
-range_within n (suc len) x c = elim (either_has n (range_with_len (n + 1) len) x c) [
-  | inl e ↦ omega (arith, e)
-  | inr r ↦ omega (arith, range_within (n + 1) len x r)
-]
-
-pub once_range : (n len : ℕ) → IsOnceEach (range_with_len n len)
-unfolding IsOnceEach
-once_range n zero = tt
-once_range n (suc len) = ((λ c. omega (arith, range_from (n + 1) len n c)), once_range (n + 1) len)

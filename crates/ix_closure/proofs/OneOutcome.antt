@@ -13,11 +13,11 @@ use Rattle.ix_closure.specs.Events.{Event, bank_after, home_for}
 use Rattle.ix_closure.specs.Follows.{FollowsClaim, Follows}
 use Rattle.ix_closure.specs.Runs.{Run, rests, goes_on}
 use Rattle.ix_closure.specs.Seen.{State}
-use Rattle.ix_closure.proofs.Following.{one_follows}
+use Rattle.ix_closure.proofs.DescriptorSteps.{follows_same}
 
 module _ (plan : Parts) (planned : IsPlanned plan) where
   claim_once : (claimed : Claimed) (s l p : ℕ) (a b : List Owed) → FollowsClaim plan claimed s l p a → FollowsClaim plan claimed s l p b → a ≡ b
-  claim_once Mine s l p a b v w = one_follows plan planned s l p a b v w
+  claim_once Mine s l p a b v w = follows_same plan planned s l p a b v w
   claim_once Taken s l p a b v w = v ∙ sym w
   claim_once Unknown s l p a b v w = v ∙ sym w
 

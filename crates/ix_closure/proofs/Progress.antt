@@ -1,10 +1,7 @@
 -- A step records a fact, or fewer steps are owed behind it.
-use Rattle.std.proofs.Common.{◌≡◌, ℕ, ◌+◌, ◌-◌, ◌*◌, ◌≤◌, ◌<◌, ◌^◌, zero, suc, Bool, true, false, cond, not, List, [], ◌∷◌, ◌++◌, length, length-append, append-nil, map, remove, Some, slice_get, slice_set, refl, sym, ap, ◌∙◌, subst, ◌⊎◌, inl, inr, arith}
-use Rattle.std.specs.List.{count_by}
-use Rattle.std.proofs.Math.Nat.{mul-le-mul_right}
-use Rattle.std.proofs.lemmas.List.Concat.{flat_map-cons}
-use Rattle.std.proofs.lemmas.List.Recursion.{is_count_by}
-use Rattle.ix_model.specs.declared.sub.Sub.{Sub}
+use Rattle.std.proofs.Common.{◌≡◌, ℕ, ◌+◌, ◌≤◌, Bool, true, false, cond, not, List, [], ◌++◌, append-nil, length, map, remove, Some, slice_get, slice_set, refl, ap, ◌∙◌, ◌⊎◌, inl, inr, arith}
+use Rattle.std.proofs.lemmas.List.Edits.{length-remove}
+use Rattle.std.proofs.lemmas.Option.{slice_get_within}
 use Rattle.ix_model.specs.Parts.{Parts}
 use Rattle.ix_cluster.specs.declared.answers.Arrived.TheVariants.{Fresh, Known}
 use Rattle.ix_cluster.specs.declared.answers.Claimed.TheVariants.{Mine, Taken, Unknown}
@@ -15,7 +12,6 @@ use Rattle.ix_cluster.specs.Facts.{has, put}
 use Rattle.ix_cluster.specs.Firsts.{firsts_of}
 use Rattle.ix_cluster.specs.Lists.{cluster}
 use Rattle.ix_cluster.specs.Seen.{Bank}
-use Rattle.ix_cluster.specs.Sound.{IsSound, AreSound}
 use Rattle.ix_cluster.specs.Steps.{after_call, edges_in, ends_in}
 use Rattle.ix_cluster.proofs.Listing.{has-put_other, has-call_edge}
 use Rattle.ix_closure.specs.declared.owed.Owed.{Owed}
@@ -23,80 +19,53 @@ use Rattle.ix_closure.specs.declared.owed.Owed.TheVariants.{Claim, Edge, End, Ar
 use Rattle.ix_closure.specs.Events.{Event, log_after, bank_after, home_for}
 use Rattle.ix_closure.specs.Follows.{arrival, claims_at, claim_of, FollowsClaim, Follows}
 use Rattle.ix_closure.specs.Seen.{State}
-use Rattle.ix_closure.proofs.Paid.{count_call}
-use Rattle.ix_closure.proofs.Weights.{count_put, count_put_new}
-
--- every fact
-each : Fact → Bool
-each f = true
-
-counted : (xs : List Fact) → length xs ≡ count_by each xs
-unfolding each
-counted xs = is_count_by length each refl (λ x xs. omega arith) xs
+use Rattle.ix_closure.proofs.ListCounts.{count_all}
+use Rattle.ix_closure.proofs.LogCounts.{count_put, count_put_new, count_call, count_after, count_set}
 
 put_longer : (log : List Fact) (f : Fact) → length log ≤ length (put log f)
-put_longer log f = omega (arith, counted log, counted (put log f), count_put each log f)
+put_longer log f = omega (arith, count_all log, count_all (put log f), count_put (λ _. true) log f)
 
 put_one_longer : (log : List Fact) (f : Fact) → has log f ≡ false → length log + 1 ≤ length (put log f)
-unfolding each
-put_one_longer log f e = omega (arith, counted log, counted (put log f), count_put_new each log f e refl)
+put_one_longer log f e = omega (arith, count_all log, count_all (put log f), count_put_new (λ _. true) log f e refl)
 
 call_longer : (plan : Parts) (k : ℕ) (log : List Fact) (r : ℕ) → length log ≤ length (after_call plan log r k)
-call_longer plan k log r = omega (arith, counted log, counted (after_call plan log r k), count_call each plan k log r)
+call_longer plan k log r = omega (arith, count_all log, count_all (after_call plan log r k), count_call (λ _. true) plan k log r)
+
+after_longer : (plan : Parts) (log : List Fact) (o : Owed) → length log ≤ length (log_after plan log o)
+after_longer plan log o = omega (arith, count_all log, count_all (log_after plan log o), count_after (λ _. true) plan log o)
 
 -- the step records a fact, or nothing follows
-pub progress : (plan : Parts) (log : List Fact) (o : Owed) (more : List Owed) → Follows plan log o more → (length log + 1 ≤ length (log_after plan log o)) ⊎ ((length log ≤ length (log_after plan log o)) × (more ≡ []))
+progress : (plan : Parts) (log : List Fact) (o : Owed) (more : List Owed) → Follows plan log o more → (length log + 1 ≤ length (log_after plan log o)) ⊎ (more ≡ [])
 progress plan log (Claim s l p) more follows = by (has log (fact.Desc s l p)) (has log (fact.Claim s l p)) refl follows
   where
-    by : (d c : Bool) → has log (fact.Claim s l p) ≡ c → FollowsClaim plan (cond d (cond c Taken Mine) Unknown) s l p more → (length log + 1 ≤ length (cond d (put log (fact.Claim s l p)) log)) ⊎ ((length log ≤ length (cond d (put log (fact.Claim s l p)) log)) × (more ≡ []))
-    by false c e f = inr (omega arith, f)
-    by true true e f = inr (put_longer log (fact.Claim s l p), f)
+    by : (d c : Bool) → has log (fact.Claim s l p) ≡ c → FollowsClaim plan (cond d (cond c Taken Mine) Unknown) s l p more → (length log + 1 ≤ length (cond d (put log (fact.Claim s l p)) log)) ⊎ (more ≡ [])
+    by false c e f = inr f
+    by true true e f = inr f
     by true false e f = inl (put_one_longer log (fact.Claim s l p) e)
-progress plan log (Edge r k s l) more follows = elim (by (has log (fact.Edge r k s l)) refl) [ inl h ↦ inl h | inr h ↦ inr (h.0, follows ∙ h.1) ]
+progress plan log (Edge r k s l) more follows = by (has log (fact.Edge r k s l)) refl follows
   where
-    by : (b : Bool) → has log (fact.Edge r k s l) ≡ b → (length log + 1 ≤ length (cond b log (put (after_call plan log r k) (fact.Edge r k s l))))
-        ⊎ ((length log ≤ length (cond b log (put (after_call plan log r k) (fact.Edge r k s l)))) × (cond (cond b false (not (has log (fact.Called r k)))) (claims_at k (firsts_of plan r)) [] ++ map (λ e. arrival k e (record { slot = s; left = l })) (cond b [] (ends_in log (cluster r k))) ≡ []))
-    by true w = inr (omega arith, refl)
-    by false w = inl (omega (arith, call_longer plan k log r, put_one_longer (after_call plan log r k) (fact.Edge r k s l) (has-call_edge r k s l plan log r k ∙ w)))
-progress plan log (End r k e) more follows = elim (by (has log (fact.End r k e)) refl) [ inl h ↦ inl h | inr h ↦ inr (h.0, follows ∙ h.1) ]
+    by : (b : Bool) → has log (fact.Edge r k s l) ≡ b → more ≡ cond (cond b false (not (has log (fact.Called r k)))) (claims_at k (firsts_of plan r)) [] ++ map (λ e. arrival k e (record { slot = s; left = l })) (cond b [] (ends_in log (cluster r k)))
+        → (length log + 1 ≤ length (cond b log (put (after_call plan log r k) (fact.Edge r k s l)))) ⊎ (more ≡ [])
+    by true w f = inr f
+    by false w f = inl (omega (arith, call_longer plan k log r, put_one_longer (after_call plan log r k) (fact.Edge r k s l) (has-call_edge r k s l plan log r k ∙ w)))
+progress plan log (End r k e) more follows = by (has log (fact.End r k e)) refl follows
   where
-    by : (b : Bool) → has log (fact.End r k e) ≡ b → (length log + 1 ≤ length (put log (fact.End r k e))) ⊎ ((length log ≤ length (put log (fact.End r k e))) × (map (arrival k e) (cond b [] (edges_in log (cluster r k))) ≡ []))
-    by true w = inr (put_longer log (fact.End r k e), refl)
-    by false w = inl (put_one_longer log (fact.End r k e) w)
-progress plan log (Arrive sub) more follows = elim (by (has log (fact.Desc sub.slot sub.left sub.right)) refl) [ inl h ↦ inl h | inr h ↦ inr (h.0, follows ∙ h.1) ]
+    by : (b : Bool) → has log (fact.End r k e) ≡ b → more ≡ map (arrival k e) (cond b [] (edges_in log (cluster r k))) → (length log + 1 ≤ length (put log (fact.End r k e))) ⊎ (more ≡ [])
+    by true w f = inr f
+    by false w f = inl (put_one_longer log (fact.End r k e) w)
+progress plan log (Arrive sub) more follows = by (has log (fact.Desc sub.slot sub.left sub.right)) refl follows
   where
-    longer : length log ≤ length (put (put log (fact.Part sub)) (fact.Desc sub.slot sub.left sub.right))
-    longer = omega (arith, put_longer log (fact.Part sub), put_longer (put log (fact.Part sub)) (fact.Desc sub.slot sub.left sub.right))
-
-    by : (b : Bool) → has log (fact.Desc sub.slot sub.left sub.right) ≡ b → (length log + 1 ≤ length (put (put log (fact.Part sub)) (fact.Desc sub.slot sub.left sub.right)))
-        ⊎ ((length log ≤ length (put (put log (fact.Part sub)) (fact.Desc sub.slot sub.left sub.right))) × (claim_of (cond b Known Fresh) sub ≡ []))
-    by true w = inr (longer, refl)
-    by false w =
+    by : (b : Bool) → has log (fact.Desc sub.slot sub.left sub.right) ≡ b → more ≡ claim_of (cond b Known Fresh) sub → (length log + 1 ≤ length (put (put log (fact.Part sub)) (fact.Desc sub.slot sub.left sub.right))) ⊎ (more ≡ [])
+    by true w f = inr f
+    by false w f =
         inl (omega (arith, put_longer log (fact.Part sub), put_one_longer (put log (fact.Part sub)) (fact.Desc sub.slot sub.left sub.right) (has-put_other log (fact.Part sub) (fact.Desc sub.slot sub.left sub.right) refl ∙ w)))
 
 -- ---- all banks
 
-pub length_remove : {X : Type 0} (xs : List X) (n : ℕ) (y : X) → slice_get xs n ≡ Some y → length (remove xs n) + 1 ≡ length xs
-length_remove [] n y e = absurd (cc)
-length_remove (x ∷ xs) zero y e = omega arith
-length_remove (x ∷ xs) (suc n) y e = omega (arith, length_remove xs n y e)
-
-all_facts : (bank : Bank) (banks : List Bank) → length (facts_of (bank ∷ banks)) ≡ length bank.log + length (facts_of banks)
-all_facts bank banks = ap length (flat_map-cons (λ (b : Bank). b.log) bank banks) ∙ length-append bank.log (facts_of banks)
-
 -- one bank's log has changed
-pub facts_set : (banks : List Bank) (m : ℕ) (bank new : Bank) → slice_get banks m ≡ Some bank → length (facts_of (slice_set banks m new)) + length bank.log ≡ length (facts_of banks) + length new.log
-facts_set [] m bank new e = absurd (cc)
-facts_set (b ∷ banks) zero bank new e = let same : b ≡ bank = (cc) in omega (arith, all_facts b banks, all_facts new banks, ap (λ (z : Bank). length z.log) same)
-facts_set (b ∷ banks) (suc m) bank new e = omega (arith, all_facts b banks, all_facts b (slice_set banks m new), facts_set banks m bank new e)
-
-few_in : (banks : List Bank) → ((m : ℕ) (bank : Bank) → slice_get banks m ≡ Some bank → length bank.log < 2 ^ 57) → length (facts_of banks) ≤ length banks * 2 ^ 57
-few_in [] few = omega arith
-few_in (b ∷ banks) few = omega (arith, all_facts b banks, few 0 b refl, few_in banks (λ m bank e. few (suc m) bank e))
-
--- sound banks have fewer facts than any machine has memory for
-pub few_facts : (plan : Parts) (banks : List Bank) → AreSound plan banks → length (facts_of banks) ≤ 2 ^ 63
-few_facts plan banks sound = omega (arith, few_in banks (λ m bank e. let s : IsSound plan (length banks) m bank = sound.each m bank e in omega (arith, s.bounded)), sound.few)
+facts_set : (banks : List Bank) (m : ℕ) (old new : Bank) → slice_get banks m ≡ Some old → length (facts_of (slice_set banks m new)) + length old.log ≡ length (facts_of banks) + length new.log
+facts_set banks m old new there =
+    omega (arith, count_all (facts_of banks), count_all (facts_of (slice_set banks m new)), count_all old.log, count_all new.log, count_set (λ _. true) banks m old new there)
 
 -- an event records a fact, or fewer steps are owed behind it
 pub event_shrinks : (plan : Parts) (old new : State) (n : ℕ) → Event plan old n new → (length (facts_of old.banks) + 1 ≤ length (facts_of new.banks)) ⊎ ((length (facts_of old.banks) ≤ length (facts_of new.banks)) × (length new.owed + 1 ≡ length old.owed))
@@ -105,16 +74,5 @@ event_shrinks plan old new n event =
     let all = ap (λ (z : List Bank). length (facts_of z)) event.done in
     elim (progress plan event.bank.log event.step event.more event.follows) [
       | inl h ↦ inl (omega (arith, all, set, h))
-      | inr h ↦ inr (omega (arith, all, set, h.0), omega (arith, ap length event.owed, ap (λ (z : List Owed). length (remove old.owed n ++ z)) h.1, ap length (append-nil (remove old.owed n)), length_remove old.owed n event.step event.taken))
+      | inr h ↦ inr (omega (arith, all, set, after_longer plan event.bank.log event.step), omega (arith, ap length event.owed, ap (λ (z : List Owed). length (remove old.owed n ++ z)) h, ap length (append-nil (remove old.owed n)), length-remove old.owed n (slice_get_within old.owed n event.step event.taken)))
     ]
-
--- the room that is left for facts counts most, and then the number of owed steps
-pub falls : (top w l l' q q' : ℕ) → l' ≤ top → q' < w → (l + 1 ≤ l') ⊎ ((l ≤ l') × (q' + 1 ≡ q)) → (top - l') * w + q' < (top - l) * w + q
-falls top w l l' q q' h small (inl more) =
-    let d : (top - l') + 1 ≤ top - l = omega arith in
-    let m : ((top - l') + 1) * w ≤ (top - l) * w = mul-le-mul_right w d in
-    grind arith
-falls top w l l' q q' h small (inr fewer) =
-    let d : top - l' ≤ top - l = omega (arith, fewer.0) in
-    let m : (top - l') * w ≤ (top - l) * w = mul-le-mul_right w d in
-    omega (arith, fewer.1)

@@ -1,14 +1,9 @@
 -- The numbers of a step that is owed are in range.
-use Rattle.std.proofs.Common.{◌≡◌, ℕ, ◌+◌, ◌<◌, ◌≤◌, Bool, true, false, cond, List, [], Contains, length, Option, Some, None, IsSome, is_none, get_or, refl, sym, ap, ◌∙◌, subst}
-use Rattle.std.specs.List.{All}
-use Rattle.std.proofs.lemmas.List.Elements.{All-from_get_or, Contains-get_or}
-use Rattle.ix_model.specs.declared.rules.Sym.{Sym}
+use Rattle.std.proofs.Common.{ℕ, ◌+◌, Bool, true, false, cond, List, [], Contains, is_some, ap}
 use Rattle.ix_model.specs.declared.rules.Sym.TheVariants as sy
+use Rattle.ix_model.specs.Closed as closed
 use Rattle.ix_model.specs.Parts.{Parts}
 use Rattle.ix_model.specs.Planned.{IsPlanned}
-use Rattle.ix_model.specs.Slots.{sym_after}
-use Rattle.ix_model.specs.Closed as closed
-use Rattle.ix_model.proofs.ClosedLinks as links
 use Rattle.ix_model.proofs.ClosedWithin.{desc_within, edge_within, part_within}
 use Rattle.ix_model.proofs.SlotReaders.{next_reads}
 use Rattle.ix_cluster.specs.declared.cluster.Edge.{Edge as Arc}
@@ -21,28 +16,18 @@ use Rattle.ix_cluster.specs.Steps.{edges_in, end_answer}
 use Rattle.ix_cluster.proofs.Members.{none_has}
 use Rattle.ix_closure.specs.declared.owed.Owed.{Owed}
 use Rattle.ix_closure.specs.declared.owed.Owed.TheVariants.{Claim, Edge, End, Arrive}
-use Rattle.ix_closure.specs.Balance.{IsBalanced}
-use Rattle.ix_closure.specs.Due.{IsRecorded}
 use Rattle.ix_closure.specs.Follows.{fact_of}
 use Rattle.ix_closure.specs.Ready.{HasFurther, HasSlot, IsReady}
-use Rattle.ix_closure.specs.Seen.{State}
-use Rattle.ix_closure.proofs.Causes.{due_closed}
-use Rattle.ix_closure.proofs.Clusters.{edge_from}
-use Rattle.ix_closure.proofs.Recording.{recorded_closed, recorded_by}
-
-all_have : {X : Type 0} (P : X → Type 0) (d : X) (xs : List X) → ((x : X) → Contains xs x → P x) → All P xs
-all_have P d xs f = All-from_get_or P xs d (λ i h. f (get_or xs i d) (Contains-get_or xs i d h))
-
-is_some : (o : Option Sym) (x : Sym) → o ≡ Some x → IsSome o
-is_some (Some y) x e = refl
-is_some None x e = absurd (cc)
+use Rattle.ix_closure.proofs.ClusterLists.{edges_from}
+use Rattle.ix_closure.proofs.DueCauses.{edge_next}
+use Rattle.ix_closure.proofs.ListMembers.{all_have}
 
 module _ (plan : Parts) (planned : IsPlanned plan) where
   edge_further : (r k s l : ℕ) → closed.Edge plan r k s l → HasFurther plan s
   edge_further r k s l h =
-      let next = (links.edge_from plan r k s l h).1 in
-      let reads = next_reads plan planned s next.0 (sy.Rule r next.1) next.2 in
-      (reads.0, is_some (sym_after plan s) (sy.Rule r next.1) reads.1)
+      let next = edge_next plan planned r k s l h in
+      let reads = next_reads plan planned s (s + 1) (sy.Rule r next.0) next.1 in
+      (reads.0, ap is_some reads.1)
 
   -- the slot by which the home of a step is told
   pub step_slot : (o : Owed) → IsInClosed plan (fact_of o) → HasSlot plan o
@@ -55,11 +40,12 @@ module _ (plan : Parts) (planned : IsPlanned plan) where
   pub step_ready : (log : List Fact) → ((f : Fact) → Contains log f → IsInClosed plan f) → (o : Owed) → IsInClosed plan (fact_of o) → IsReady plan log o
   step_ready log true_fact (Claim s l p) h = let w = desc_within plan planned s l p h in (w.0, w.2)
   step_ready log true_fact (Edge r k s l) h =
-      let next = (links.edge_from plan r k s l h).1 in
-      ((edge_further r k s l h).0, (edge_within plan planned r k s l h).0, (next.1, (next_reads plan planned s next.0 (sy.Rule r next.1) next.2).1))
-  step_ready log true_fact (End r k e) h = all_have (λ (edge : Arc). HasFurther plan edge.slot) (record { slot = 0; left = 0 }) (end_answer log r k e) (by (has log (fact.End r k e)))
+      let next = edge_next plan planned r k s l h in
+      let reads = next_reads plan planned s (s + 1) (sy.Rule r next.0) next.1 in
+      (reads.0, (edge_within plan planned r k s l h).0, (next.0, reads.1))
+  step_ready log true_fact (End r k e) h = all_have (λ (edge : Arc). HasFurther plan edge.slot) (end_answer log r k e) (by (has log (fact.End r k e)))
     where
       by : (b : Bool) (a : Arc) → Contains (cond b [] (edges_in log (cluster r k))) a → HasFurther plan a.slot
       by true a w = absurd (none_has a w)
-      by false a w = edge_further r k a.slot a.left (true_fact (fact.Edge r k a.slot a.left) (edge_from r k log a w))
+      by false a w = edge_further r k a.slot a.left (true_fact (fact.Edge r k a.slot a.left) (edges_from (cluster r k) log a w))
   step_ready log true_fact (Arrive sub) h = (part_within plan planned sub.slot sub.left sub.pivot sub.right h).0

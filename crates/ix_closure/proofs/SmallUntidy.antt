@@ -25,7 +25,7 @@ use Rattle.ix_closure.specs.Balance.{IsBalanced}
 use Rattle.ix_closure.specs.Due.{IsRecorded, FollowsIn, claim, passed, inserted, waits, ends, meets}
 use Rattle.ix_closure.specs.Examples.{a_called, alone, cycle_called}
 use Rattle.ix_closure.specs.Follows.{claim_for, claims_for, sub_of}
-use Rattle.ix_closure.proofs.Members.{filter_from, filter_has}
+use Rattle.ix_closure.proofs.ListMembers.{filter_from, filter_has}
 use Rattle.ix_closure.proofs.SmallStates.{one_sound}
 use Rattle.ix_closure.proofs.SmallSteps.{next_0_c}
 

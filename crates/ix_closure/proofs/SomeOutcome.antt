@@ -30,11 +30,11 @@ use Rattle.ix_closure.specs.Follows.{FollowsDesc, FollowsClaim, Follows, fact_of
 use Rattle.ix_closure.specs.Laws.{HasMemory}
 use Rattle.ix_closure.specs.Ready.{HasSlot}
 use Rattle.ix_closure.specs.Seen.{State}
-use Rattle.ix_closure.proofs.Causes.{due_closed}
-use Rattle.ix_closure.proofs.Following.{reads_follows, passes_term, stops_term}
-use Rattle.ix_closure.proofs.Members.{nth_has}
+use Rattle.ix_closure.proofs.DueClosed.{due_closed}
+use Rattle.ix_closure.proofs.DescriptorSteps.{reads_follows, passes_term, stops_term}
+use Rattle.ix_closure.proofs.ListMembers.{nth_has}
 use Rattle.ix_closure.proofs.Readiness.{step_slot}
-use Rattle.ix_closure.proofs.Recording.{recorded_closed}
+use Rattle.ix_closure.proofs.RecordedFacts.{recorded_closed}
 
 -- ---- a terminal stands there or not
 

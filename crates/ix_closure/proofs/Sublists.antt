@@ -1,10 +1,9 @@
 -- A list of facts, each once, that are all in another list: fewer of them pass a test, and they make fewer pairs.
-use Rattle.std.proofs.Common.{◌≡◌, ℕ, ◌+◌, ◌≤◌, Bool, true, false, cond, if◌then◌else◌, List, [], ◌∷◌, Contains, count_by, refl, sym, ap, ◌∙◌, subst, ◌⊎◌, inl, inr, arith, true≢false}
+use Rattle.std.proofs.Common.{◌≡◌, ℕ, ◌+◌, ◌≤◌, Bool, true, false, cond, if◌then◌else◌, List, [], ◌∷◌, Contains, refl, sym, ap, ◌∙◌, subst, ◌⊎◌, inl, inr, arith, true≢false}
 use Rattle.std.specs.List.{IsDistinct}
+use Rattle.std.proofs.lemmas.Bool.{false_from_ne_true}
 use Rattle.std.proofs.lemmas.Bool.Decides.{nat_tests}
-use Rattle.std.proofs.lemmas.List.Elements.{All-from_recursion, All-contains}
-use Rattle.std.proofs.lemmas.List.Recursion.{is_count_by}
-use Rattle.std.proofs.lemmas.Map.Keys.{IsDistinct-head, IsDistinct-tail}
+use Rattle.std.proofs.lemmas.Map.Keys.{IsDistinct-tail}
 use Rattle.ix_cluster.specs.declared.cluster.Cluster.{Cluster}
 use Rattle.ix_cluster.specs.declared.fact.Fact.{Fact}
 use Rattle.ix_cluster.specs.declared.fact.Fact.TheVariants.{Called, Edge, End, Desc, Part, Claim}
@@ -15,21 +14,7 @@ use Rattle.ix_cluster.specs.Room.{tally}
 use Rattle.ix_cluster.proofs.FactLemmas.{same_fact-true, same_fact-refl}
 use Rattle.ix_cluster.proofs.Handing.{called-none, desc-none, part-none, claim-none}
 use Rattle.ix_cluster.proofs.Members.{first_has, rest_has, either_has, none_has}
-
--- the two counts of what passes a test are one
-pub tallied : (p : Fact → Bool) (xs : List Fact) → tally p xs ≡ count_by p xs
-tallied p xs = is_count_by (tally p) p refl one xs
-  where
-    one : (x : Fact) (ys : List Fact) → tally p (x ∷ ys) ≡ cond (p x) (1 + tally p ys) (tally p ys)
-    one x ys = by (p x)
-      where
-        by : (b : Bool) → cond b 1 0 + tally p ys ≡ cond b (1 + tally p ys) (tally p ys)
-        by true = refl
-        by false = omega arith
-
--- a fact that is once in front is not behind
-pub apart_from : (x : Fact) (xs : List Fact) (f : Fact) → IsDistinct same_fact (x ∷ xs) → Contains xs f → same_fact x f ≡ false
-apart_from x xs f d h = All-contains (λ y. same_fact x y ≡ false) xs f (All-from_recursion (λ y. same_fact x y ≡ false) xs (IsDistinct-head same_fact x xs d)) h
+use Rattle.ix_closure.proofs.OnceEach.{distinct_apart}
 
 same_cluster_symm : (a b : Cluster) → same_cluster a b ≡ same_cluster b a
 same_cluster_symm a b = grind (arith, nat_tests)
@@ -97,11 +82,10 @@ module _ (p q : Fact → Bool) (g : Fact → Fact) (own : (a b : Fact) → p a �
   fewer_by (x ∷ xs) ys d each = by (p x) refl (λ zs. fewer_by xs zs (IsDistinct-tail same_fact x xs d))
     where
       left : p x ≡ true → (f : Fact) → Contains xs f → p f ≡ true → Contains (without (g x) ys) (g f)
-      left e f h w = without_has (g x) ys (g f) (other (same_fact (g x) (g f)) refl) (each f (rest_has x xs f h) w).0
-        where
-          other : (b : Bool) → same_fact (g x) (g f) ≡ b → same_fact (g x) (g f) ≡ false
-          other false o = o
-          other true o = absurd (true≢false (sym (same_fact-refl x) ∙ ap (same_fact x) (own x f e w (same_fact-true (g x) (g f) o)) ∙ apart_from x xs f d h))
+      left e f h w =
+          without_has (g x) ys (g f)
+          (false_from_ne_true (same_fact (g x) (g f)) (λ o. true≢false (sym (same_fact-refl x) ∙ ap (same_fact x) (own x f e w (same_fact-true (g x) (g f) o)) ∙ distinct_apart same_fact x xs d f h)))
+          (each f (rest_has x xs f h) w).0
 
       by : (b : Bool) → p x ≡ b → ((zs : List Fact) → ((f : Fact) → Contains xs f → p f ≡ true → Contains zs (g f) × (q (g f) ≡ true)) → tally p xs ≤ tally q zs) → cond b 1 0 + tally p xs ≤ tally q ys
       by false e rest = omega (arith, rest ys (λ f h w. each f (rest_has x xs f h) w))
@@ -123,7 +107,7 @@ pub fewer_pairs : (xs ys : List Fact) → IsDistinct same_fact xs → ((f : Fact
 fewer_pairs [] ys d within = omega arith
 fewer_pairs (x ∷ xs) ys d within =
     let rest = IsDistinct-tail same_fact x xs d in
-    let left : (f : Fact) → Contains xs f → Contains (without x ys) f = λ f h. without_has x ys f (apart_from x xs f d h) (within f (rest_has x xs f h)) in
+    let left : (f : Fact) → Contains xs f → Contains (without x ys) f = λ f h. without_has x ys f (distinct_apart same_fact x xs d f h) (within f (rest_has x xs f h)) in
     omega (
       arith,
       fewer (meets x) xs (without x ys) rest (λ f h _. left f h),

@@ -1,5 +1,5 @@
 -- A claim keeps a state tidy.
-use Rattle.std.proofs.Common.{◌≡◌, ℕ, ◌+◌, ◌≤◌, Bool, true, false, cond, List, [], ◌∷◌, ◌++◌, Contains, count_by, refl, sym, ap, ◌∙◌, subst, ◌⊎◌, inl, inr, arith}
+use Rattle.std.proofs.Common.{◌≡◌, ℕ, ◌+◌, ◌≤◌, Bool, true, false, cond, List, [], ◌∷◌, ◌++◌, count_by, Contains, refl, sym, ap, ◌∙◌, subst, ◌⊎◌, inl, inr, arith}
 use Rattle.std.proofs.lemmas.Bool.Decides.{nat_tests}
 use Rattle.ix_model.specs.declared.rules.Sym.TheVariants as sy
 use Rattle.ix_model.specs.Parts.{Parts}
@@ -22,12 +22,13 @@ use Rattle.ix_closure.specs.Follows.{sub_of, FollowsDesc, FollowsClaim, passes, 
 use Rattle.ix_closure.specs.Quantity.{same_step, times, givers, gives}
 use Rattle.ix_closure.specs.Seen.{State}
 use Rattle.ix_closure.specs.Tidy.{IsTidy}
-use Rattle.ix_closure.proofs.Done.{IsDone, newly, step_owed, tidy_after}
 use Rattle.ix_closure.proofs.DueCauses.{ArrivesBy, cause_of}
-use Rattle.ix_closure.proofs.Known.{edge_known, arrival_known}
-use Rattle.ix_closure.proofs.Logs.{IsBeside, has_not}
-use Rattle.ix_closure.proofs.Tidied.{HasCause, IsSingle, IsKnown}
-use Rattle.ix_closure.proofs.Times.{count-append, times-one, same_step-refl, same_step-true}
+use Rattle.ix_closure.proofs.ListCounts.{count_append}
+use Rattle.ix_closure.proofs.OwedTimes.{same_step_refl, same_step_true}
+use Rattle.ix_closure.proofs.StepLogs.{IsBeside, has_not}
+use Rattle.ix_closure.proofs.TidyCauses.{IsSingle, IsBroughtOnce, brought_alone}
+use Rattle.ix_closure.proofs.TidyKnown.{edge_known, arrival_known}
+use Rattle.ix_closure.proofs.TidyStep.{IsDone, step_owed, tidy_after}
 
 module _ (plan : Parts) (planned : IsPlanned plan) (old new : State) (n : ℕ) (log : List Fact) (s l p : ℕ) (more : List Owed)
     (done : IsDone plan old new n log (Claim s l p) more) (tidy : IsTidy plan old) where
@@ -51,29 +52,14 @@ module _ (plan : Parts) (planned : IsPlanned plan) (old new : State) (n : ℕ) (
   recorded : log_after plan log (Claim s l p) ≡ log ++ fact.Claim s l p ∷ []
   recorded = ap (λ d. cond d (put log (fact.Claim s l p)) log) descriptor ∙ put-new log (fact.Claim s l p) no_claim
 
-  -- what it records has its cause
-  caused : (f : Fact) → IsRecorded new.banks f → IsRecorded old.banks f ⊎ HasCause plan new f
-  unfolding IsBeside
-  caused f h = elim (newly plan planned old new n log (Claim s l p) more done f h) [
-    | inl o ↦ inl o
-    | inr w ↦ elim w [ inl e ↦ inr (subst (HasCause plan new) e tt) | inr b ↦ absurd b ]
-  ]
-
   -- what the claim brings is owed once, and was not known
-  brought : (steps : List Owed) → FollowsDesc plan s l p steps → (x : Owed) → IsSingle x → Contains steps x → (times steps x ≡ 1) × ¬ (IsKnown old x)
-  brought steps (passes x after e next t) o single c = (
-    times-one (Arrive (sub_of after l p e)) o c,
-    λ known. unclaimed (subst (ArrivesBy plan planned (IsRecorded old.banks) s l p e) t.3 (arrival_known plan planned old tidy (sub_of after l p e) (subst (IsKnown old) (sym (one_has (Arrive (sub_of after l p e)) o c)) known) s x next)),
-  )
+  brought : (steps : List Owed) → FollowsDesc plan s l p steps → (x : Owed) → IsSingle x → Contains steps x → IsBroughtOnce old steps x
+  brought steps (passes x after e next t) o single c =
+      brought_alone old (Arrive (sub_of after l p e)) o (λ known. unclaimed (subst (ArrivesBy plan planned (IsRecorded old.banks) s l p e) t.3 (arrival_known plan planned old tidy (sub_of after l p e) known s x next))) c
   brought steps (stops t shown after next none) o single c = absurd (none_has o c)
-  brought steps (inserts m after next) o single c = (
-    times-one (Arrive (sub_of after l p p)) o c,
-    λ known. unclaimed (arrival_known plan planned old tidy (sub_of after l p p) (subst (IsKnown old) (sym (one_has (Arrive (sub_of after l p p)) o c)) known) s (sy.Insert m) next),
-  )
-  brought steps (calls r after mark next) o single c = (
-    times-one (Edge r p s l) o c,
-    λ known. unclaimed (edge_known plan planned old tidy r p s l (subst (IsKnown old) (sym (one_has (Edge r p s l) o c)) known)),
-  )
+  brought steps (inserts m after next) o single c =
+      brought_alone old (Arrive (sub_of after l p p)) o (λ known. unclaimed (arrival_known plan planned old tidy (sub_of after l p p) known s (sy.Insert m) next)) c
+  brought steps (calls r after mark next) o single c = brought_alone old (Edge r p s l) o (λ known. unclaimed (edge_known plan planned old tidy r p s l known)) c
   brought steps (ends r last) o single c = absurd (subst IsSingle (sym (one_has (End r l p) o c)) single)
 
   -- whether the claim gives the end that is owed
@@ -96,8 +82,8 @@ module _ (plan : Parts) (planned : IsPlanned plan) (old new : State) (n : ℕ) (
 
       by : (same_step (End r k e) (End r' l p) ≡ true) ⊎ (same_step (End r k e) (End r' l p) ≡ false) → times (End r' l p ∷ []) (End r k e) ≤ cond (gives plan r k e (fact.Claim s l p)) 1 0
       by (inl t) =
-          subst (λ o. times (End r' l p ∷ []) o ≤ cond (gives_end o) 1 0) (sym (same_step-true (End r k e) (End r' l p) t))
-          (omega (arith, ap {B = ℕ} (λ b. cond b 1 0) own, ap {B = ℕ} (λ b. cond b 1 0) (same_step-refl (End r' l p))))
+          subst (λ o. times (End r' l p ∷ []) o ≤ cond (gives_end o) 1 0) (sym (same_step_true (End r k e) (End r' l p) t))
+          (omega (arith, ap {B = ℕ} (λ b. cond b 1 0) own, ap {B = ℕ} (λ b. cond b 1 0) (same_step_refl (End r' l p))))
       by (inr f) = omega (arith, ap {B = ℕ} (λ b. cond b 1 0) f)
 
   -- so each end that is owed has claims enough that give it
@@ -108,8 +94,9 @@ module _ (plan : Parts) (planned : IsPlanned plan) (old new : State) (n : ℕ) (
         given more follows r k e,
         done.counted (gives plan r k e),
         ap (count_by (gives plan r k e)) recorded,
-        count-append (gives plan r k e) log (fact.Claim s l p ∷ []),
+        count_append (gives plan r k e) log (fact.Claim s l p ∷ []),
       )
 
   pub claim_tidy : IsBalanced plan new → IsTidy plan new
-  claim_tidy balanced = tidy_after plan planned old new n log (Claim s l p) more done tidy balanced caused (brought more follows) enough
+  unfolding IsBeside
+  claim_tidy balanced = tidy_after plan planned old new n log (Claim s l p) more done tidy balanced tt (λ f b. absurd b) (brought more follows) enough

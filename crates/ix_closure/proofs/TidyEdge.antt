@@ -1,19 +1,16 @@
 -- An edge keeps a state tidy.
-use Rattle.std.proofs.lemmas.Bool.Decides.{nat_tests}
-use Rattle.std.proofs.Common.{eqb, ◌≡◌, ℕ, ◌+◌, ◌<◌, Bool, true, false, cond, not, List, [], ◌++◌, length, Contains, map, refl, sym, ap, ◌∙◌, subst, ◌⊎◌, inl, inr, arith}
+use Rattle.std.proofs.Common.{◌≡◌, ℕ, ◌+◌, Bool, true, false, cond, not, List, [], ◌++◌, map, Contains, refl, sym, ap, ◌∙◌, subst, inl, inr, arith}
 use Rattle.std.proofs.lemmas.List.Elements.{Contains-append_cases}
 use Rattle.ix_model.specs.declared.rules.Sym.TheVariants as sy
 use Rattle.ix_model.specs.declared.sub.Sub.{Sub}
 use Rattle.ix_model.specs.Parts.{Parts}
 use Rattle.ix_model.specs.Planned.{IsPlanned}
-use Rattle.ix_model.proofs.ClosedWithin.{edge_within}
 use Rattle.ix_cluster.specs.declared.fact.Fact.{Fact}
 use Rattle.ix_cluster.specs.declared.fact.Fact.TheVariants as fact
 use Rattle.ix_cluster.specs.Facts.{has, put}
 use Rattle.ix_cluster.specs.Firsts.{firsts_of}
 use Rattle.ix_cluster.specs.Lists.{cluster}
 use Rattle.ix_cluster.specs.Steps.{ends_in, after_call}
-use Rattle.ix_cluster.proofs.Beginning.{firsts_are}
 use Rattle.ix_cluster.proofs.Calls.{call-there}
 use Rattle.ix_cluster.proofs.Members.{none_has, put-keeps}
 use Rattle.ix_closure.specs.declared.owed.Owed.{Owed}
@@ -25,25 +22,18 @@ use Rattle.ix_closure.specs.Quantity.{times}
 use Rattle.ix_closure.specs.Seen.{State}
 use Rattle.ix_closure.specs.Tidy.{IsTidy}
 use Rattle.ix_closure.proofs.ClusterLists.{ends_once}
-use Rattle.ix_closure.proofs.Done.{IsDone, newly, step_owed, tidy_after, ends_kept}
 use Rattle.ix_closure.proofs.DueCauses.{cause_of, edge_next}
-use Rattle.ix_closure.proofs.FirstsOnce.{firsts_once}
-use Rattle.ix_closure.proofs.Known.{claim_known, arrival_known}
-use Rattle.ix_closure.proofs.Logs.{IsBeside, has_none, has_not}
-use Rattle.ix_closure.proofs.Members.{map_from}
-use Rattle.ix_closure.proofs.OnceEach.{IsOnceEach, once_distinct, once_map}
-use Rattle.ix_closure.proofs.Tidied.{HasCause, IsSingle, IsKnown, begun_cause}
-use Rattle.ix_closure.proofs.Times.{times-append, times-none, times-once}
-
--- the claims at a position are of different slots, each owed once
-pub claims_once : (plan : Parts) → IsPlanned plan → (k r : ℕ) → r < length plan.rules.flats → IsOnceEach (claims_at k (firsts_of plan r))
-claims_once plan planned k r there = once_map (λ s. Claim s k k) (firsts_of plan r) (λ a b h i e. cc) (once_distinct eqb (λ n. grind (arith, nat_tests)) (firsts_of plan r) (firsts_once plan planned r))
+use Rattle.ix_closure.proofs.FirstSlots.{first_of, claims_once}
+use Rattle.ix_closure.proofs.ListMembers.{map_from}
+use Rattle.ix_closure.proofs.OnceEach.{once_map}
+use Rattle.ix_closure.proofs.OwedTimes.{times_append, times_none, times_once}
+use Rattle.ix_closure.proofs.StepLogs.{IsBeside, has_none, has_not}
+use Rattle.ix_closure.proofs.TidyCauses.{HasCause, IsSingle, IsKnown, IsBroughtOnce, begun_cause}
+use Rattle.ix_closure.proofs.TidyKnown.{claim_known, arrival_known}
+use Rattle.ix_closure.proofs.TidyStep.{IsDone, step_owed, tidy_after, ends_kept}
 
 module _ (plan : Parts) (planned : IsPlanned plan) (old new : State) (n : ℕ) (log : List Fact) (r k s l : ℕ) (more : List Owed)
     (done : IsDone plan old new n log (Edge r k s l) more) (tidy : IsTidy plan old) where
-  there : r < length plan.rules.flats
-  there = (edge_within plan planned r k s l done.closed).0
-
   -- the edge is not recorded before
   unmet : ¬ (IsRecorded old.banks (fact.Edge r k s l))
   unmet = (tidy.owed_edges r k s l (step_owed plan planned old new n log (Edge r k s l) more done)).1
@@ -59,15 +49,12 @@ module _ (plan : Parts) (planned : IsPlanned plan) (old new : State) (n : ℕ) (
       (put-keeps (after_call plan log r k) (fact.Edge r k s l) (fact.Called r k) (call-there plan log r k)))
 
   -- what it records has its cause
-  caused : (f : Fact) → IsRecorded new.banks f → IsRecorded old.banks f ⊎ HasCause plan new f
+  own : IsRecorded new.banks (fact.Claim s l k)
+  own = done.moves.grows (fact.Claim s l k) (cause_of plan planned (IsRecorded old.banks) (Edge r k s l) done.due)
+
+  beside : (f : Fact) → IsBeside plan log (Edge r k s l) f → HasCause plan new f
   unfolding IsBeside
-  caused f h = elim (newly plan planned old new n log (Edge r k s l) more done f h) [
-    | inl o ↦ inl o
-    | inr w ↦ elim w [
-      | inl e ↦ inr (subst (HasCause plan new) e (done.moves.grows (fact.Claim s l k) (cause_of plan planned (IsRecorded old.banks) (Edge r k s l) done.due)))
-      | inr b ↦ inr (elim b.1 [ inl e ↦ subst (HasCause plan new) e tt | inr begun ↦ begun_cause plan planned new r k there called f begun ])
-    ]
-  ]
+  beside f b = elim b.1 [ inl e ↦ subst (HasCause plan new) e tt | inr begun ↦ begun_cause plan planned new r k called f begun ]
 
   -- the arrival of the edge's slot behind an end
   abbrev behind : ℕ → Owed
@@ -102,14 +89,14 @@ module _ (plan : Parts) (planned : IsPlanned plan) (old new : State) (n : ℕ) (
         first = p.0;
         among = p.1;
         is = p.2;
-        once = ap (λ b. times (cond (not b) (claims_at k (firsts_of plan r)) []) x) e ∙ times-once (claims_at k (firsts_of plan r)) x (claims_once plan planned k r there) h;
+        once = ap (λ b. times (cond (not b) (claims_at k (firsts_of plan r)) []) x) e ∙ times_once (claims_at k (firsts_of plan r)) x (claims_once plan planned r k) h;
       }
 
   -- what it brings was not known
   claim_new : (x : Owed) → IsOpened x → ¬ (IsKnown old x)
   claim_new x o known =
       let desc = claim_known plan planned old tidy.balanced o.first k k (subst (IsKnown old) (sym o.is) known) in
-      has_none log (fact.Called r k) o.fresh (done.moves.here (fact.Called r k) refl (tidy.first_descs o.first k k r desc (firsts_are plan planned r o.first there o.among)))
+      has_none log (fact.Called r k) o.fresh (done.moves.here (fact.Called r k) refl (tidy.first_descs o.first k k r desc (first_of plan planned r o.first o.among)))
 
   arrival_new : (e : ℕ) → ¬ (IsKnown old (behind e))
   arrival_new e known =
@@ -128,16 +115,16 @@ module _ (plan : Parts) (planned : IsPlanned plan) (old new : State) (n : ℕ) (
   same_end a b h = let same : sub_of (s + 1) l k a ≡ sub_of (s + 1) l k b = cc in ap (λ (u : Sub). u.right) same
 
   times_more : (x : Owed) → times more x ≡ times claims x + times met x
-  times_more x = ap (λ steps. times steps x) brings ∙ times-append claims met x
+  times_more x = ap (λ steps. times steps x) brings ∙ times_append claims met x
 
   -- what it brings is owed once, and was not known
-  brought : (x : Owed) → IsSingle x → Contains more x → (times more x ≡ 1) × ¬ (IsKnown old x)
+  brought : (x : Owed) → IsSingle x → Contains more x → IsBroughtOnce old more x
   brought x single c = elim (Contains-append_cases claims met x (subst (λ steps. Contains steps x) brings c)) [
-    | inl h ↦ (omega (arith, times_more x, (opened_from x h).once, times-none met x (not_both x h)), claim_new x (opened_from x h))
+    | inl h ↦ (omega (arith, times_more x, (opened_from x h).once, times_none met x (not_both x h)), claim_new x (opened_from x h))
     | inr h ↦
         let e = map_from behind (ends_in log (cluster r k)) x h in
-        let once = times-once met x (once_map behind (ends_in log (cluster r k)) (λ a b i j. same_end a b) (ends_once (cluster r k) log done.once)) h in
-        (omega (arith, times_more x, once, times-none claims x (λ i. not_both x i h)), λ known. arrival_new e.0 (subst (IsKnown old) (sym e.2) known))
+        let once = times_once met x (once_map behind (ends_in log (cluster r k)) (λ a b i j. same_end a b) (ends_once (cluster r k) log done.once)) h in
+        (omega (arith, times_more x, once, times_none claims x (λ i. not_both x i h)), λ known. arrival_new e.0 (subst (IsKnown old) (sym e.2) known))
   ]
 
   -- it brings no end
@@ -148,4 +135,4 @@ module _ (plan : Parts) (planned : IsPlanned plan) (old new : State) (n : ℕ) (
   ]
 
   pub edge_tidy : IsBalanced plan new → IsTidy plan new
-  edge_tidy balanced = tidy_after plan planned old new n log (Edge r k s l) more done tidy balanced caused brought (ends_kept plan planned old new n log (Edge r k s l) more done no_end)
+  edge_tidy balanced = tidy_after plan planned old new n log (Edge r k s l) more done tidy balanced own beside brought (ends_kept plan planned old new n log (Edge r k s l) more done no_end)

@@ -1,14 +1,14 @@
 -- How many steps facts can have made owed, as facts are recorded.
-use Rattle.std.proofs.Common.{◌≡◌, ℕ, ◌+◌, ◌≤◌, Bool, true, false, cond, List, [], ◌∷◌, ◌++◌, count_by, ap, arith}
-use Rattle.std.proofs.lemmas.List.Sums.{sum_by_push, sum_by-append}
+use Rattle.std.proofs.Common.{◌≡◌, ℕ, ◌+◌, ◌≤◌, Bool, true, false, List, [], ◌∷◌, ◌++◌, count_by, Some, slice_get, slice_set, arith}
+use Rattle.std.specs.List.{sum_by}
+use Rattle.std.proofs.lemmas.List.Sums.{sum_by-cons}
 use Rattle.ix_cluster.specs.declared.fact.Fact.{Fact}
 use Rattle.ix_cluster.specs.declared.fact.Fact.TheVariants.{Claim}
 use Rattle.ix_cluster.specs.Banks.{is_descriptor, facts_of}
-use Rattle.ix_cluster.specs.Facts.{has, put}
 use Rattle.ix_cluster.specs.Handed.{meets, pair_count}
-use Rattle.ix_cluster.specs.Room.{tally}
 use Rattle.ix_cluster.specs.Seen.{Bank}
-use Rattle.ix_cluster.proofs.Counts.{put-new}
+use Rattle.ix_closure.proofs.ListCounts.{count_append, sum_set}
+use Rattle.ix_closure.proofs.LogCounts.{tallied}
 
 -- whether the fact is a claim
 abbrev pub is_claim : Fact → Bool
@@ -19,34 +19,10 @@ is_claim _ = false
 abbrev pub weight : List Fact → ℕ
 weight facts = count_by is_descriptor facts + count_by is_claim facts + pair_count facts
 
-module _ (p : Fact → Bool) where
-  -- one more that passes is counted
-  pub count_push : (xs : List Fact) (f : Fact) → count_by p (xs ++ f ∷ []) ≡ count_by p xs + cond (p f) 1 0
-  count_push xs f = sum_by_push (λ x. cond (p x) 1 0) xs f
-
-  pub count_append : (xs ys : List Fact) → count_by p (xs ++ ys) ≡ count_by p xs + count_by p ys
-  count_append xs ys = sum_by-append (λ x. cond (p x) 1 0) xs ys
-
-  -- a log that a fact is put into counts no fewer
-  pub count_put : (log : List Fact) (f : Fact) → count_by p log ≤ count_by p (put log f)
-  count_put log f = by (has log f)
-    where
-      by : (b : Bool) → count_by p log ≤ count_by p (cond b log (log ++ f ∷ []))
-      by true = omega arith
-      by false = omega (arith, count_push log f)
-
-  -- and one more where the fact is new and passes
-  pub count_put_new : (log : List Fact) (f : Fact) → has log f ≡ false → p f ≡ true → count_by p log + 1 ≤ count_by p (put log f)
-  count_put_new log f none passes = rw (put-new log f none) (omega (arith, count_push log f, ap {B = ℕ} (λ b. cond b 1 0) passes))
-
-tally_append : (p : Fact → Bool) (xs ys : List Fact) → tally p (xs ++ ys) ≡ tally p xs + tally p ys
-tally_append p [] ys = omega arith
-tally_append p (x ∷ xs) ys = omega (arith, tally_append p xs ys)
-
 -- two lists behind one another have the pairs of both, and those of one with the other
 pub pairs_append : (xs ys : List Fact) → pair_count xs + pair_count ys ≤ pair_count (xs ++ ys)
 pairs_append [] ys = omega arith
-pairs_append (x ∷ xs) ys = omega (arith, pairs_append xs ys, tally_append (meets x) xs ys)
+pairs_append (x ∷ xs) ys = omega (arith, pairs_append xs ys, tallied (meets x) (xs ++ ys), tallied (meets x) xs, tallied (meets x) ys, count_append (meets x) xs ys)
 
 pub weight_append : (xs ys : List Fact) → weight xs + weight ys ≤ weight (xs ++ ys)
 weight_append xs ys = omega (arith, count_append is_descriptor xs ys, count_append is_claim xs ys, pairs_append xs ys)
@@ -55,10 +31,13 @@ weight_append xs ys = omega (arith, count_append is_descriptor xs ys, count_appe
 
 -- the banks' weights together
 abbrev pub weight_in : List Bank → ℕ
-weight_in [] = 0
-weight_in (bank ∷ banks) = weight bank.log + weight_in banks
+weight_in banks = sum_by (λ (bank : Bank). weight bank.log) banks
+
+-- one bank changes the weight of all as its own
+pub weight_set : (banks : List Bank) (m : ℕ) (old new : Bank) → slice_get banks m ≡ Some old → weight_in (slice_set banks m new) + weight old.log ≡ weight_in banks + weight new.log
+weight_set banks m old new there = sum_set (λ (bank : Bank). weight bank.log) banks m old new there
 
 -- the facts of all banks weigh no less
 pub weight_of_facts : (banks : List Bank) → weight_in banks ≤ weight (facts_of banks)
 weight_of_facts [] = omega arith
-weight_of_facts (bank ∷ banks) = omega (arith, weight_of_facts banks, weight_append bank.log (facts_of banks))
+weight_of_facts (bank ∷ banks) = omega (arith, sum_by-cons (λ (bank : Bank). weight bank.log) bank banks, weight_of_facts banks, weight_append bank.log (facts_of banks))

@@ -3,7 +3,7 @@ use Rattle.ix_model.specs.ExamplePlans.{only_a}
 use Rattle.ix_model.proofs.SmallPlans.{planned_a}
 use Rattle.ix_closure.specs.declared.owed.Owed.TheVariants.{Arrive}
 use Rattle.ix_closure.specs.Follows.{sub_of}
-use Rattle.ix_closure.proofs.Following.{one_follows}
+use Rattle.ix_closure.proofs.DescriptorSteps.{follows_same}
 use Rattle.ix_closure.proofs.SmallSteps.{a_passes}
 use Rattle.ix_closure.proofs.laws.step_is_replaced.Goals as goal
 
@@ -11,4 +11,4 @@ pub returns-clause-replaced : goal.returns-clause-replaced
 returns-clause-replaced c = (Arrive (sub_of 1 0 0 1) ∷ [], a_passes, refl)
 
 pub returns-clause-forgotten : goal.returns-clause-forgotten
-returns-clause-forgotten c = λ h. let e : Arrive (sub_of 1 0 0 1) ∷ [] ≡ h.0 = one_follows (only_a (codes "a")) planned_a 0 0 0 (Arrive (sub_of 1 0 0 1) ∷ []) h.0 a_passes h.1 in cc (e, h.2)
+returns-clause-forgotten c = λ h. let e : Arrive (sub_of 1 0 0 1) ∷ [] ≡ h.0 = follows_same (only_a (codes "a")) planned_a 0 0 0 (Arrive (sub_of 1 0 0 1) ∷ []) h.0 a_passes h.1 in cc (e, h.2)

@@ -15,9 +15,9 @@ use Rattle.ix_closure.specs.Due.{IsRecorded, FollowsIn}
 use Rattle.ix_closure.specs.Seen.{State}
 use Rattle.ix_closure.specs.Tidy.{IsTidy}
 use Rattle.ix_closure.proofs.DueCauses.{ArrivesBy, cause_of, next_not_first}
-use Rattle.ix_closure.proofs.Members.{place_in}
-use Rattle.ix_closure.proofs.Recording.{recorded_in, recorded_by}
-use Rattle.ix_closure.proofs.Tidied.{IsKnown}
+use Rattle.ix_closure.proofs.ListMembers.{place_in}
+use Rattle.ix_closure.proofs.RecordedFacts.{recorded_in, recorded_by}
+use Rattle.ix_closure.proofs.TidyCauses.{IsKnown}
 
 module _ (plan : Parts) (planned : IsPlanned plan) (state : State) where
   -- a recorded claim has its descriptor

@@ -1,15 +1,16 @@
 -- A state is tidy where each recorded fact has its cause and each owed step its number.
-use Rattle.std.proofs.Common.{ℕ, ◌<◌, ◌≤◌, length, Contains, refl, sym, ◌∙◌, subst, ◌⊎◌, inl, inr}
+use Rattle.std.proofs.Common.{◌≡◌, ℕ, ◌≤◌, List, [], ◌∷◌, Contains, refl, sym, ◌∙◌, subst, ◌⊎◌, inl, inr}
 use Rattle.ix_model.specs.Parts.{Parts}
 use Rattle.ix_model.specs.Planned.{IsPlanned}
 use Rattle.ix_model.specs.SlotPlaces.{IsFirst}
+use Rattle.ix_model.proofs.SlotReaders.{first_reads}
 use Rattle.ix_cluster.specs.declared.fact.Fact.{Fact}
 use Rattle.ix_cluster.specs.declared.fact.Fact.TheVariants as fact
 use Rattle.ix_cluster.specs.Banks.{facts_of}
-use Rattle.ix_cluster.proofs.Calls.{IsBegun}
 use Rattle.ix_cluster.specs.Firsts.{firsts_of}
-use Rattle.ix_cluster.proofs.Beginning.{firsts_are, ends_at_once}
-use Rattle.ix_model.proofs.SlotReaders.{first_reads}
+use Rattle.ix_cluster.proofs.Beginning.{ends_at_once}
+use Rattle.ix_cluster.proofs.Calls.{IsBegun}
+use Rattle.ix_cluster.proofs.Members.{one_has}
 use Rattle.ix_closure.specs.declared.owed.Owed.{Owed}
 use Rattle.ix_closure.specs.declared.owed.Owed.TheVariants.{Claim, Edge, End, Arrive}
 use Rattle.ix_closure.specs.Balance.{IsBalanced}
@@ -18,7 +19,9 @@ use Rattle.ix_closure.specs.Follows.{fact_of, sub_of}
 use Rattle.ix_closure.specs.Quantity.{times, givers}
 use Rattle.ix_closure.specs.Seen.{State}
 use Rattle.ix_closure.specs.Tidy.{IsTidy, IsEmptyOfCalled, IsOwedOnce}
-use Rattle.ix_closure.proofs.DueCauses.{due_grows}
+use Rattle.ix_closure.proofs.FirstSlots.{first_of}
+use Rattle.ix_closure.proofs.NewlyDue.{due_grows}
+use Rattle.ix_closure.proofs.OwedTimes.{times_one}
 
 -- what must be recorded for the fact to be recorded
 abbrev pub HasCause : Parts → State → Fact → Type 0
@@ -38,6 +41,14 @@ IsSingle (End r k e) = ⊥
 -- the step is owed, or what it is to record is recorded
 abbrev pub IsKnown : State → Owed → Type 0
 IsKnown state x = Contains state.owed x ⊎ IsRecorded state.banks (fact_of x)
+
+-- the step is once among those that are brought, and was not known
+abbrev pub IsBroughtOnce : State → List Owed → Owed → Type 0
+IsBroughtOnce state more x = (times more x ≡ 1) × ¬ (IsKnown state x)
+
+-- so it is where a step is brought alone that was not known
+pub brought_alone : (state : State) (y x : Owed) → ¬ (IsKnown state y) → Contains (y ∷ []) x → IsBroughtOnce state (y ∷ []) x
+brought_alone state y x new c = subst (IsBroughtOnce state (y ∷ [])) (one_has y x c) (times_one y, new)
 
 module _ (plan : Parts) (state : State) where
   -- so a state is tidy
@@ -85,10 +96,10 @@ cause_grows plan old new grows (fact.End r k e) h = tt
 cause_grows plan old new grows (fact.Claim s l p) h = tt
 
 -- what the beginning of a called rule's alternatives records has its cause
-pub begun_cause : (plan : Parts) → IsPlanned plan → (state : State) (r k : ℕ) → r < length plan.rules.flats → IsRecorded state.banks (fact.Called r k) → (f : Fact) → IsBegun plan k (firsts_of plan r) f → HasCause plan state f
+pub begun_cause : (plan : Parts) → IsPlanned plan → (state : State) (r k : ℕ) → IsRecorded state.banks (fact.Called r k) → (f : Fact) → IsBegun plan k (firsts_of plan r) f → HasCause plan state f
 unfolding IsBegun
-begun_cause plan planned state r k there called f begun =
-    let first = firsts_are plan planned r begun.0 there begun.1 in
+begun_cause plan planned state r k called f begun =
+    let first = first_of plan planned r begun.0 begun.1 in
     elim begun.2 [
       | inl e ↦ subst (HasCause plan state) e (
         (λ q other. subst (λ (z : ℕ). IsRecorded state.banks (fact.Called z k)) (sym (first_reads plan begun.0 r first).1 ∙ (first_reads plan begun.0 q other).1) called),

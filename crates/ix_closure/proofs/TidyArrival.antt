@@ -1,5 +1,5 @@
 -- An arrival keeps a state tidy.
-use Rattle.std.proofs.Common.{◌≡◌, ℕ, Bool, true, false, cond, List, Contains, refl, sym, ap, ◌∙◌, subst, ◌⊎◌, inl, inr}
+use Rattle.std.proofs.Common.{◌≡◌, ℕ, Bool, true, false, cond, List, Contains, refl, sym, subst, inr}
 use Rattle.ix_model.specs.declared.sub.Sub.{Sub}
 use Rattle.ix_model.specs.Parts.{Parts}
 use Rattle.ix_model.specs.Planned.{IsPlanned}
@@ -13,15 +13,14 @@ use Rattle.ix_closure.specs.declared.owed.Owed.TheVariants.{Claim, End, Arrive}
 use Rattle.ix_closure.specs.Balance.{IsBalanced}
 use Rattle.ix_closure.specs.Due.{IsRecorded}
 use Rattle.ix_closure.specs.Follows.{claim_of}
-use Rattle.ix_closure.specs.Quantity.{times}
 use Rattle.ix_closure.specs.Seen.{State}
 use Rattle.ix_closure.specs.Tidy.{IsTidy}
-use Rattle.ix_closure.proofs.Done.{IsDone, newly, tidy_after, ends_kept}
-use Rattle.ix_closure.proofs.DueCauses.{due_grows, arrival_not_first}
-use Rattle.ix_closure.proofs.Known.{claim_known}
-use Rattle.ix_closure.proofs.Logs.{IsBeside, has_none}
-use Rattle.ix_closure.proofs.Tidied.{HasCause, IsSingle, IsKnown}
-use Rattle.ix_closure.proofs.Times.{times-one}
+use Rattle.ix_closure.proofs.DueCauses.{arrival_not_first}
+use Rattle.ix_closure.proofs.NewlyDue.{due_grows}
+use Rattle.ix_closure.proofs.StepLogs.{IsBeside, has_none}
+use Rattle.ix_closure.proofs.TidyCauses.{HasCause, IsSingle, IsKnown, IsBroughtOnce, brought_alone}
+use Rattle.ix_closure.proofs.TidyKnown.{claim_known}
+use Rattle.ix_closure.proofs.TidyStep.{IsDone, tidy_after, ends_kept}
 
 module _ (plan : Parts) (planned : IsPlanned plan) (old new : State) (n : ℕ) (log : List Fact) (sub : Sub) (more : List Owed)
     (done : IsDone plan old new n log (Arrive sub) more) (tidy : IsTidy plan old) where
@@ -29,35 +28,25 @@ module _ (plan : Parts) (planned : IsPlanned plan) (old new : State) (n : ℕ) (
   recorded : IsRecorded new.banks (fact.Part sub)
   recorded = done.moves.made (fact.Part sub) (put-keeps (put log (fact.Part sub)) (fact.Desc sub.slot sub.left sub.right) (fact.Part sub) (put-there log (fact.Part sub)))
 
-  -- what it records has its cause
-  caused : (f : Fact) → IsRecorded new.banks f → IsRecorded old.banks f ⊎ HasCause plan new f
+  -- its descriptor has it as its cause
+  beside : (f : Fact) → IsBeside plan log (Arrive sub) f → HasCause plan new f
   unfolding IsBeside
-  caused f h = elim (newly plan planned old new n log (Arrive sub) more done f h) [
-    | inl o ↦ inl o
-    | inr w ↦ elim w [
-      | inl e ↦ inr (subst (HasCause plan new) e (inr (due_grows plan (IsRecorded old.banks) (IsRecorded new.banks) done.moves.grows (Arrive sub) done.due)))
-      | inr e ↦ inr (subst (HasCause plan new) e (
-        (λ r first. absurd (arrival_not_first plan planned (IsRecorded old.banks) sub done.due r first)),
-        (λ other. (sub.pivot, recorded)),
-      ))
-    ]
-  ]
+  beside f b = subst (HasCause plan new) b.1 (
+    (λ r first. absurd (arrival_not_first plan planned (IsRecorded old.banks) sub done.due r first)),
+    (λ other. (sub.pivot, recorded)),
+  )
 
   -- the claim of a new descriptor was not known
   claim_new : has log (fact.Desc sub.slot sub.left sub.right) ≡ false → ¬ (IsKnown old (Claim sub.slot sub.left sub.right))
   claim_new e known = has_none log (fact.Desc sub.slot sub.left sub.right) e (done.moves.here (fact.Desc sub.slot sub.left sub.right) refl (claim_known plan planned old tidy.balanced sub.slot sub.left sub.right known))
 
   -- what it brings is owed once, and was not known
-  brought : (x : Owed) → IsSingle x → Contains more x → (times more x ≡ 1) × ¬ (IsKnown old x)
+  brought : (x : Owed) → IsSingle x → Contains more x → IsBroughtOnce old more x
   brought x single c = by (has log (fact.Desc sub.slot sub.left sub.right)) refl done.follows
     where
-      by : (b : Bool) → has log (fact.Desc sub.slot sub.left sub.right) ≡ b → more ≡ claim_of (cond b Known Fresh) sub → (times more x ≡ 1) × ¬ (IsKnown old x)
+      by : (b : Bool) → has log (fact.Desc sub.slot sub.left sub.right) ≡ b → more ≡ claim_of (cond b Known Fresh) sub → IsBroughtOnce old more x
       by true e w = absurd (none_has x (subst (λ steps. Contains steps x) w c))
-      by false e w =
-          let one = subst (λ steps. Contains steps x) w c in (
-            ap (λ steps. times steps x) w ∙ times-one (Claim sub.slot sub.left sub.right) x one,
-            λ known. claim_new e (subst (IsKnown old) (sym (one_has (Claim sub.slot sub.left sub.right) x one)) known),
-          )
+      by false e w = subst (λ steps. IsBroughtOnce old steps x) (sym w) (brought_alone old (Claim sub.slot sub.left sub.right) x (claim_new e) (subst (λ steps. Contains steps x) w c))
 
   -- it brings no end
   no_end : (r k e : ℕ) → ¬ (Contains more (End r k e))
@@ -68,4 +57,6 @@ module _ (plan : Parts) (planned : IsPlanned plan) (old new : State) (n : ℕ) (
       by false w = let same = one_has (Claim sub.slot sub.left sub.right) (End r k e) (subst (λ steps. Contains steps (End r k e)) w c) in cc
 
   pub arrive_tidy : IsBalanced plan new → IsTidy plan new
-  arrive_tidy balanced = tidy_after plan planned old new n log (Arrive sub) more done tidy balanced caused brought (ends_kept plan planned old new n log (Arrive sub) more done no_end)
+  arrive_tidy balanced =
+      tidy_after plan planned old new n log (Arrive sub) more done tidy balanced (inr (due_grows plan (IsRecorded old.banks) (IsRecorded new.banks) done.moves.grows (Arrive sub) done.due))
+      beside brought (ends_kept plan planned old new n log (Arrive sub) more done no_end)

@@ -1,5 +1,5 @@
 -- What becomes due when facts are recorded.
-use Rattle.std.proofs.Common.{◌≡◌, ℕ, List, [], ◌∷◌, Contains, Option, ap, subst, ◌⊎◌, inl, inr}
+use Rattle.std.proofs.Common.{ℕ, [], ◌∷◌, Option, ◌⊎◌, inl, inr}
 use Rattle.ix_model.specs.declared.grammar.Mark.{Mark}
 use Rattle.ix_model.specs.declared.rules.Sym.TheVariants as sy
 use Rattle.ix_model.specs.Parts.{Parts}
@@ -11,7 +11,6 @@ use Rattle.ix_closure.specs.declared.owed.Owed.TheVariants.{Claim, Edge, End, Ar
 use Rattle.ix_closure.specs.Due.{IsDue, claim, passed, inserted, waits, ends, meets}
 use Rattle.ix_closure.specs.Follows.{sub_of, FollowsDesc}
 use Rattle.ix_closure.specs.Follows as follows
-use Rattle.ix_cluster.proofs.Members.{one_has, none_has}
 
 module _ (plan : Parts) (New After : Fact → Type 0) where
   -- the step follows from a new fact, and perhaps another
@@ -22,14 +21,14 @@ module _ (plan : Parts) (New After : Fact → Type 0) where
     by_end : (r k s l e after : ℕ) (mark : Option Mark) → After (fact.Edge r k s l) → New (fact.End r k e) → HasNext plan s after (sy.Rule r mark) → IsNewlyDue (Arrive (sub_of after l k e))
 
 module _ (plan : Parts) (Before After : Fact → Type 0) where
-  -- what is due stays due
-  pub due_grown : ((f : Fact) → Before f → After f) → (o : Owed) → IsDue plan Before o → IsDue plan After o
-  due_grown grows o (claim s l p h) = claim s l p (grows (fact.Desc s l p) h)
-  due_grown grows o (passed s l p after e x h n t) = passed s l p after e x (grows (fact.Claim s l p) h) n t
-  due_grown grows o (inserted s l p after n h next) = inserted s l p after n (grows (fact.Claim s l p) h) next
-  due_grown grows o (waits s l p after r mark h next) = waits s l p after r mark (grows (fact.Claim s l p) h) next
-  due_grown grows o (ends s l p r h last) = ends s l p r (grows (fact.Claim s l p) h) last
-  due_grown grows o (meets r k s l e after mark edge end next) = meets r k s l e after mark (grows (fact.Edge r k s l) edge) (grows (fact.End r k e) end) next
+  -- what is due stays due where more is recorded
+  pub due_grows : ((f : Fact) → Before f → After f) → (o : Owed) → IsDue plan Before o → IsDue plan After o
+  due_grows grows o (claim s l p h) = claim s l p (grows (fact.Desc s l p) h)
+  due_grows grows o (passed s l p after e x h n t) = passed s l p after e x (grows (fact.Claim s l p) h) n t
+  due_grows grows o (inserted s l p after n h next) = inserted s l p after n (grows (fact.Claim s l p) h) next
+  due_grows grows o (waits s l p after r mark h next) = waits s l p after r mark (grows (fact.Claim s l p) h) next
+  due_grows grows o (ends s l p r h last) = ends s l p r (grows (fact.Claim s l p) h) last
+  due_grows grows o (meets r k s l e after mark edge end next) = meets r k s l e after mark (grows (fact.Edge r k s l) edge) (grows (fact.End r k e) end) next
 
   -- what is due was due, or follows from a new fact
   pub due_split : (New : Fact → Type 0) → ((f : Fact) → After f → Before f ⊎ New f) → (o : Owed) → IsDue plan After o → IsDue plan Before o ⊎ IsNewlyDue plan New After o
@@ -57,19 +56,3 @@ module _ (plan : Parts) (Before After : Fact → Type 0) where
       | inr n ↦ inr (by_end r k s l e after mark edge n next)
     ]
   ]
-
-  -- what a claimed descriptor brings is due
-  pub desc_due : (s l p : ℕ) (more : List Owed) (o : Owed) → After (fact.Claim s l p) → FollowsDesc plan s l p more → more ≡ o ∷ [] → IsDue plan After o
-  desc_due s l p more o h (follows.passes x after e n t) w = let q : Arrive (sub_of after l p e) ≡ o = (cc) in subst (IsDue plan After) q (passed s l p after e x h n t)
-  desc_due s l p more o h (follows.stops t shown after n none) w = absurd (cc)
-  desc_due s l p more o h (follows.inserts n after next) w = let q : Arrive (sub_of after l p p) ≡ o = (cc) in subst (IsDue plan After) q (inserted s l p after n h next)
-  desc_due s l p more o h (follows.calls r after mark next) w = let q : Edge r p s l ≡ o = (cc) in subst (IsDue plan After) q (waits s l p after r mark h next)
-  desc_due s l p more o h (follows.ends r last) w = let q : End r l p ≡ o = (cc) in subst (IsDue plan After) q (ends s l p r h last)
-
-  -- and it brings one step at most
-  pub desc_brings : (s l p : ℕ) (more : List Owed) (o : Owed) → FollowsDesc plan s l p more → Contains more o → more ≡ o ∷ []
-  desc_brings s l p more o (follows.passes x after e n t) h = ap (λ (z : Owed). z ∷ []) (one_has (Arrive (sub_of after l p e)) o h)
-  desc_brings s l p more o (follows.stops t shown after n none) h = absurd (none_has o h)
-  desc_brings s l p more o (follows.inserts n after next) h = ap (λ (z : Owed). z ∷ []) (one_has (Arrive (sub_of after l p p)) o h)
-  desc_brings s l p more o (follows.calls r after mark next) h = ap (λ (z : Owed). z ∷ []) (one_has (Edge r p s l) o h)
-  desc_brings s l p more o (follows.ends r last) h = ap (λ (z : Owed). z ∷ []) (one_has (End r l p) o h)

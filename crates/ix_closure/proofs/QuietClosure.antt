@@ -1,8 +1,9 @@
 -- A balanced state in which nothing is owed has recorded exactly the closure.
-use Rattle.std.proofs.Common.{◌≡◌, ℕ, Bool, true, false, List, [], Contains, refl, sym, subst, ◌⊎◌, inl, inr}
-use Rattle.ix_model.specs.declared.grammar.Mark.{Mark}
-use Rattle.ix_model.specs.Parts.{Parts}
+use Rattle.std.proofs.Common.{◌≡◌, ℕ, ◌<◌, List, [], length, get_or, Contains, refl, subst, ◌⊎◌, inl, inr, arith}
+use Rattle.std.proofs.lemmas.List.{nil_from_length}
+use Rattle.std.proofs.lemmas.Option.{slice_get-get_or}
 use Rattle.ix_model.specs.Closed as closed
+use Rattle.ix_model.specs.Parts.{Parts}
 use Rattle.ix_cluster.specs.declared.fact.Fact.{Fact}
 use Rattle.ix_cluster.specs.declared.fact.Fact.TheVariants as fact
 use Rattle.ix_cluster.specs.Banks.{facts_of}
@@ -16,18 +17,28 @@ use Rattle.ix_cluster.proofs.Members.{none_has, has-Contains, Contains-has}
 use Rattle.ix_closure.specs.declared.owed.Owed.{Owed}
 use Rattle.ix_closure.specs.declared.owed.Owed.TheVariants as step
 use Rattle.ix_closure.specs.Balance.{IsBalanced}
-use Rattle.ix_closure.specs.Due.{IsDue, IsRecorded, FollowsIn, claim, passed, inserted, waits, ends, meets}
+use Rattle.ix_closure.specs.Closure.{IsClosure}
+use Rattle.ix_closure.specs.Due.{IsRecorded, FollowsIn, claim, passed, inserted, waits, ends, meets}
 use Rattle.ix_closure.specs.Follows.{fact_of, sub_of}
 use Rattle.ix_closure.specs.Seen.{State}
-use Rattle.ix_closure.proofs.Opening.{opened}
-use Rattle.ix_closure.proofs.Recording.{recorded_in, recorded_by, recorded_closed}
+use Rattle.ix_closure.proofs.FactsOnce.{facts_once}
+use Rattle.ix_closure.proofs.RecordedFacts.{recorded_in, recorded_by, recorded_closed}
 
 -- a fact is recorded or not
-pub recorded_or_not : (banks : List Bank) (f : Fact) → IsRecorded banks f ⊎ (IsRecorded banks f → ⊥)
+recorded_or_not : (banks : List Bank) (f : Fact) → IsRecorded banks f ⊎ (IsRecorded banks f → ⊥)
 recorded_or_not banks f = elim (either (has (facts_of banks) f)) [
   | inl h ↦ inl (Contains-has (facts_of banks) f h)
   | inr n ↦ inr (λ h. absurd (cc (has-Contains (facts_of banks) f h, n)))
 ]
+
+-- sound banks have the call of the first rule at the start
+first_called : (plan : Parts) (banks : List Bank) → AreSound plan banks → IsRecorded banks (fact.Called 0 0)
+first_called plan banks sound =
+    let h : home 0 0 (length banks) < length banks = grind (arith, sound.some) in
+    let no_bank : Bank = record { log = []; handed = 0 } in
+    let there = slice_get-get_or banks (home 0 0 (length banks)) no_bank h in
+    let bank : Bank = get_or banks (home 0 0 (length banks)) no_bank in
+    recorded_by banks (home 0 0 (length banks)) bank (fact.Called 0 0) there ((sound.each (home 0 0 (length banks)) bank there).opened refl)
 
 module _ (plan : Parts) (state : State) (balanced : IsBalanced plan state) (quiet : state.owed ≡ []) where
   -- what is due is recorded
@@ -49,7 +60,7 @@ module _ (plan : Parts) (state : State) (balanced : IsBalanced plan state) (quie
 
   mutual
     called : (r k : ℕ) → closed.Called plan r k → IsRecorded state.banks (fact.Called r k)
-    called r k closed.start = opened plan state.banks balanced.sound
+    called r k closed.start = first_called plan state.banks balanced.sound
     called r k (closed.by_edge _ _ s l e) = let b = beside (fact.Edge r k s l) (edge r k s l e) in b.3 (fact.Called r k) (b.1.edges r k s l b.2)
 
     desc : (s l p : ℕ) → closed.Desc plan s l p → IsRecorded state.banks (fact.Desc s l p)
@@ -69,10 +80,18 @@ module _ (plan : Parts) (state : State) (balanced : IsBalanced plan state) (quie
     part s l k e (closed.joined r _ q _ _ _ mark a b next) = recorded (step.Arrive (sub_of s l k e)) (meets r k q l e s mark (edge r k q l a) (end r k e b) next)
 
   -- each fact of the closure is recorded, and so is the claim of each descriptor
-  pub all_recorded : (f : Fact) → IsInClosed plan f → IsRecorded state.banks f
+  all_recorded : (f : Fact) → IsInClosed plan f → IsRecorded state.banks f
   all_recorded (fact.Called r k) h = called r k h
   all_recorded (fact.Edge r k s l) h = edge r k s l h
   all_recorded (fact.End r k e) h = end r k e h
   all_recorded (fact.Desc s l p) h = desc s l p h
   all_recorded (fact.Part sub) h = part sub.slot sub.left sub.pivot sub.right h
   all_recorded (fact.Claim s l p) h = claimed s l p (desc s l p h)
+
+-- so the state has the closure
+pub quiet_closure : (plan : Parts) (state : State) → IsBalanced plan state → length state.owed ≡ 0 → IsClosure plan (facts_of state.banks)
+quiet_closure plan state balanced e = record {
+  closed = recorded_closed plan state.banks balanced.sound;
+  all = all_recorded plan state balanced (nil_from_length state.owed e);
+  once = facts_once plan state.banks balanced.sound;
+}

@@ -1,20 +1,17 @@
 -- A step that was done on its bank, and when it keeps the state tidy.
-use Rattle.std.proofs.Common.{◌≡◌, ℕ, ◌+◌, ◌≤◌, Bool, List, ◌++◌, length, Contains, remove, count_by, Some, slice_get, sym, ap, ◌∙◌, subst, ◌⊎◌, inl, inr, arith}
+use Rattle.std.proofs.Common.{◌≡◌, ℕ, ◌+◌, ◌≤◌, Bool, List, ◌++◌, length, remove, count_by, Contains, Some, slice_get, sym, ap, ◌∙◌, subst, ◌⊎◌, inl, inr, arith}
 use Rattle.std.specs.List.{IsDistinct}
 use Rattle.std.proofs.lemmas.List.Elements.{Contains-append_cases}
 use Rattle.ix_model.specs.declared.sub.Sub.{Sub}
 use Rattle.ix_model.specs.Parts.{Parts}
 use Rattle.ix_model.specs.Planned.{IsPlanned}
 use Rattle.ix_model.specs.SlotPlaces.{IsFirst}
-use Rattle.ix_model.proofs.ClosedWithin.{edge_within}
 use Rattle.ix_cluster.specs.declared.fact.Fact.{Fact}
 use Rattle.ix_cluster.specs.declared.fact.Fact.TheVariants as fact
 use Rattle.ix_cluster.specs.Banks.{facts_of}
 use Rattle.ix_cluster.specs.ClosedFacts.{IsInClosed}
 use Rattle.ix_cluster.specs.Facts.{same_fact}
-use Rattle.ix_cluster.specs.Homes.{home_of}
 use Rattle.ix_cluster.specs.Steps.{empty_sub}
-use Rattle.ix_cluster.proofs.Beginning.{firsts_are}
 use Rattle.ix_cluster.proofs.Calls.{IsBegun}
 use Rattle.ix_closure.specs.declared.owed.Owed.{Owed}
 use Rattle.ix_closure.specs.declared.owed.Owed.TheVariants.{Claim, Edge, End, Arrive}
@@ -25,14 +22,15 @@ use Rattle.ix_closure.specs.Follows.{fact_of, Follows}
 use Rattle.ix_closure.specs.Quantity.{same_step, times, givers, gives}
 use Rattle.ix_closure.specs.Seen.{State}
 use Rattle.ix_closure.specs.Tidy.{IsTidy, IsOwedOnce}
-use Rattle.ix_closure.proofs.Counting.{count-set, count-after}
 use Rattle.ix_closure.proofs.DueCauses.{arrival_not_first}
-use Rattle.ix_closure.proofs.Logs.{IsBeside, log_from}
-use Rattle.ix_closure.proofs.Members.{nth_has, left_was}
-use Rattle.ix_closure.proofs.Recording.{Moves}
-use Rattle.ix_closure.proofs.Stepping.{step_due, step_closed, event_moves}
-use Rattle.ix_closure.proofs.Tidied.{HasCause, IsSingle, IsKnown, tidy_by, tidy_caused, tidy_once, cause_grows}
-use Rattle.ix_closure.proofs.Times.{count-remove, times-some, times-none, times-append, times-taken, times-left, fact_of-same}
+use Rattle.ix_closure.proofs.EventBanks.{SharesHome, HomeMoves, step_due, step_closed, event_moves}
+use Rattle.ix_closure.proofs.FirstSlots.{first_of}
+use Rattle.ix_closure.proofs.ListCounts.{count_remove}
+use Rattle.ix_closure.proofs.ListMembers.{nth_has, left_was}
+use Rattle.ix_closure.proofs.LogCounts.{count_set, count_after}
+use Rattle.ix_closure.proofs.OwedTimes.{times_some, times_none, times_append, times_taken, times_left, fact_of_same}
+use Rattle.ix_closure.proofs.StepLogs.{IsBeside, beside_can, newly_recorded}
+use Rattle.ix_closure.proofs.TidyCauses.{HasCause, IsSingle, IsBroughtOnce, tidy_by, tidy_caused, tidy_once, cause_grows}
 
 -- the n-th owed step was done on the bank with the log, and brought more
 pub record IsDone (plan : Parts) (old new : State) (n : ℕ) (log : List Fact) (step : Owed) (more : List Owed) : Type 0 where
@@ -41,7 +39,7 @@ pub record IsDone (plan : Parts) (old new : State) (n : ℕ) (log : List Fact) (
   pub closed : IsInClosed plan (fact_of step)
   pub follows : Follows plan log step more
   pub owed : new.owed ≡ remove old.owed n ++ more
-  pub moves : Moves (λ f. home_of plan (length old.banks) f ≡ home_for plan (length old.banks) step) (IsRecorded old.banks) (IsRecorded new.banks) log (log_after plan log step)
+  pub moves : HomeMoves plan old new log step
   pub once : IsDistinct same_fact log
   pub counted : (p : Fact → Bool) → count_by p (facts_of new.banks) + count_by p log ≡ count_by p (facts_of old.banks) + count_by p (log_after plan log step)
 
@@ -57,7 +55,7 @@ event_done plan planned old new n balanced event = record {
   once = (balanced.sound.each (home_for plan (length old.banks) event.step) event.bank event.there).once;
   counted = λ p.
       ap (λ banks. count_by p (facts_of banks) + count_by p event.bank.log) event.done ∙
-      count-set p old.banks (home_for plan (length old.banks) event.step) event.bank (bank_after plan event.bank event.step) event.there;
+      count_set p old.banks (home_for plan (length old.banks) event.step) event.bank (bank_after plan event.bank event.step) event.there;
 }
 
 module _ (plan : Parts) (planned : IsPlanned plan) (old new : State) (n : ℕ) (log : List Fact) (step : Owed) (more : List Owed) (done : IsDone plan old new n log step more) where
@@ -66,33 +64,23 @@ module _ (plan : Parts) (planned : IsPlanned plan) (old new : State) (n : ℕ) (
   step_owed = nth_has old.owed n step done.taken
 
   -- what is recorded now was recorded before, or it is the step's own fact, or one beside it
-  pub newly : (f : Fact) → IsRecorded new.banks f → IsRecorded old.banks f ⊎ ((fact_of step ≡ f) ⊎ IsBeside plan log step f)
-  newly f h = elim (done.moves.from f h) [
-    | inl o ↦ inl o
-    | inr c ↦ elim (log_from plan log step f c) [ inl o ↦ inl (done.moves.back f o) | inr w ↦ inr w ]
-  ]
+  newly : (f : Fact) → IsRecorded new.banks f → IsRecorded old.banks f ⊎ ((fact_of step ≡ f) ⊎ IsBeside plan log step f)
+  newly f h = newly_recorded plan (SharesHome plan (length old.banks) step) (IsRecorded old.banks) (IsRecorded new.banks) log step done.moves f h
 
   -- beside its own fact a step records none that a due step other than an end is to record
-  beside_none : (o x : Owed) → IsInClosed plan (fact_of o) → IsSingle x → FollowsIn plan new.banks x → IsBeside plan log o (fact_of x) → ⊥
+  beside_none : (o x : Owed) → IsSingle x → FollowsIn plan new.banks x → IsBeside plan log o (fact_of x) → ⊥
   unfolding IsBeside IsBegun
-  beside_none (Claim s l p) x closed single due h = h
-  beside_none (End r k e) x closed single due h = h
-  beside_none (Arrive sub) (Claim s l p) closed single due h = cc
-  beside_none (Arrive sub) (Edge r k s l) closed single due h = cc
-  beside_none (Arrive sub) (Arrive sub') closed single due h = cc
-  beside_none (Arrive sub) (End r k e) closed single due h = single
-  beside_none (Edge r k s l) (Claim s' l' p') closed single due (e, inl h) = cc
-  beside_none (Edge r k s l) (Claim s' l' p') closed single due (e, inr (t, m, inl h)) = cc
-  beside_none (Edge r k s l) (Claim s' l' p') closed single due (e, inr (t, m, inr (z, h))) = cc
-  beside_none (Edge r k s l) (Edge r' k' s' l') closed single due (e, inl h) = cc
-  beside_none (Edge r k s l) (Edge r' k' s' l') closed single due (e, inr (t, m, inl h)) = cc
-  beside_none (Edge r k s l) (Edge r' k' s' l') closed single due (e, inr (t, m, inr (z, h))) = cc
-  beside_none (Edge r k s l) (End r' k' e') closed single due h = single
-  beside_none (Edge r k s l) (Arrive sub) closed single due (e, inl h) = cc
-  beside_none (Edge r k s l) (Arrive sub) closed single due (e, inr (t, m, inl h)) = cc
-  beside_none (Edge r k s l) (Arrive sub) closed single due (e, inr (t, m, inr (z, h))) =
+  beside_none o (Claim s l p) single due b = beside_can plan log o (fact.Claim s l p) b
+  beside_none o (Edge r k s l) single due b = beside_can plan log o (fact.Edge r k s l) b
+  beside_none o (End r k e) single due b = single
+  beside_none (Claim s l p) (Arrive sub) single due b = b
+  beside_none (End r k e) (Arrive sub) single due b = b
+  beside_none (Arrive sub') (Arrive sub) single due (n, h) = cc
+  beside_none (Edge r k s l) (Arrive sub) single due (e, inl h) = cc
+  beside_none (Edge r k s l) (Arrive sub) single due (e, inr (t, m, inl h)) = cc
+  beside_none (Edge r k s l) (Arrive sub) single due (e, inr (t, m, inr (z, h))) =
       let slot : t ≡ sub.slot = ap (λ (u : Sub). u.slot) (same_sub h) in
-      arrival_not_first plan planned (IsRecorded new.banks) sub due r (subst (λ (u : ℕ). IsFirst plan u r) slot (firsts_are plan planned r t (edge_within plan planned r k s l closed).0 m))
+      arrival_not_first plan planned (IsRecorded new.banks) sub due r (subst (λ (u : ℕ). IsFirst plan u r) slot (first_of plan planned r t m))
     where
       same_sub : fact.Part (empty_sub t k) ≡ fact.Part sub → empty_sub t k ≡ sub
       same_sub w = cc
@@ -101,23 +89,23 @@ module _ (plan : Parts) (planned : IsPlanned plan) (old new : State) (n : ℕ) (
   only_step : (x : Owed) → IsSingle x → FollowsIn plan new.banks x → IsRecorded new.banks (fact_of x) → IsRecorded old.banks (fact_of x) ⊎ (x ≡ step)
   only_step x single due h = elim (newly (fact_of x) h) [
     | inl o ↦ inl o
-    | inr w ↦ elim w [ inl e ↦ inr (sym (fact_of-same step x e)) | inr b ↦ absurd (beside_none step x done.closed single due b) ]
+    | inr w ↦ elim w [ inl e ↦ inr (sym (fact_of_same step x e)) | inr b ↦ absurd (beside_none step x single due b) ]
   ]
 
-  -- the state stays tidy where what is recorded now has its cause, each step that is brought is brought once and was not known,
-  -- and the ends that are brought have claims that give them
+  -- the state stays tidy where the step's own fact and those beside it have their causes, each step that is brought is brought
+  -- once and was not known, and the ends that are brought have claims that give them
   module _ (tidy : IsTidy plan old) (balanced : IsBalanced plan new)
-      (caused : (f : Fact) → IsRecorded new.banks f → IsRecorded old.banks f ⊎ HasCause plan new f)
-      (brought : (x : Owed) → IsSingle x → Contains more x → (times more x ≡ 1) × ¬ (IsKnown old x))
+      (own : HasCause plan new (fact_of step)) (beside : (f : Fact) → IsBeside plan log step f → HasCause plan new f)
+      (brought : (x : Owed) → IsSingle x → Contains more x → IsBroughtOnce old more x)
       (ends : (r k e : ℕ) → times more (End r k e) + givers plan (facts_of old.banks) r k e ≤ givers plan (facts_of new.banks) r k e) where
     times_new : (x : Owed) → times new.owed x ≡ times (remove old.owed n) x + times more x
-    times_new x = ap (λ owed. times owed x) done.owed ∙ times-append (remove old.owed n) more x
+    times_new x = ap (λ owed. times owed x) done.owed ∙ times_append (remove old.owed n) more x
 
     -- the step that was done is not left, where it was owed once
     not_left : (x : Owed) → times old.owed x ≡ 1 → Contains (remove old.owed n) x → x ≡ step → ⊥
     not_left x once c e =
-        let taken = subst (λ y. times (remove old.owed n) y + 1 ≡ times old.owed y) (sym e) (times-taken old.owed n step done.taken) in
-        omega (arith, times-some (remove old.owed n) x c, taken, once)
+        let taken = subst (λ y. times (remove old.owed n) y + 1 ≡ times old.owed y) (sym e) (times_taken old.owed n step done.taken) in
+        omega (arith, times_some (remove old.owed n) x c, taken, once)
 
     -- a step that is left is owed as often as before
     left_once : (x : Owed) → IsSingle x → FollowsIn plan new.banks x → Contains (remove old.owed n) x → IsOwedOnce new x
@@ -125,14 +113,14 @@ module _ (plan : Parts) (planned : IsPlanned plan) (old new : State) (n : ℕ) (
         let was = left_was old.owed n x c in
         let once = tidy_once plan old tidy x single was in
         let other = not_left x once.0 c in
-        let none = times-none more x (λ m. (brought x single m).1 (inl was)) in
-        (omega (arith, times_new x, none, once.0, times-left old.owed n step x done.taken other), λ h. elim (only_step x single due h) [ inl o ↦ once.1 o | inr e ↦ other e ])
+        let none = times_none more x (λ m. (brought x single m).1 (inl was)) in
+        (omega (arith, times_new x, none, once.0, times_left old.owed n step x done.taken other), λ h. elim (only_step x single due h) [ inl o ↦ once.1 o | inr e ↦ other e ])
 
     -- and one that is brought once
     brought_once : (x : Owed) → IsSingle x → FollowsIn plan new.banks x → Contains more x → IsOwedOnce new x
     brought_once x single due c =
         let b = brought x single c in
-        let none = times-none (remove old.owed n) x (λ m. b.1 (inl (left_was old.owed n x m))) in
+        let none = times_none (remove old.owed n) x (λ m. b.1 (inl (left_was old.owed n x m))) in
         (omega (arith, times_new x, none, b.0), λ h. b.1 (elim (only_step x single due h) [ inl o ↦ inr o | inr e ↦ inl (subst (Contains old.owed) (sym e) step_owed) ]))
 
     once_new : (x : Owed) → IsSingle x → Contains new.owed x → IsOwedOnce new x
@@ -142,14 +130,17 @@ module _ (plan : Parts) (planned : IsPlanned plan) (old new : State) (n : ℕ) (
     ]
 
     ends_new : (r k e : ℕ) → times new.owed (End r k e) ≤ givers plan (facts_of new.banks) r k e
-    ends_new r k e = omega (arith, times_new (End r k e), count-remove (same_step (End r k e)) old.owed n step done.taken, tidy.owed_ends r k e, ends r k e)
+    ends_new r k e = omega (arith, times_new (End r k e), count_remove (same_step (End r k e)) old.owed n step done.taken, tidy.owed_ends r k e, ends r k e)
 
     caused_new : (f : Fact) → IsRecorded new.banks f → HasCause plan new f
-    caused_new f h = elim (caused f h) [ inl o ↦ cause_grows plan old new done.moves.grows f (tidy_caused plan old tidy f o) | inr w ↦ w ]
+    caused_new f h = elim (newly f h) [
+      | inl o ↦ cause_grows plan old new done.moves.grows f (tidy_caused plan old tidy f o)
+      | inr w ↦ elim w [ inl e ↦ subst (HasCause plan new) e own | inr b ↦ beside f b ]
+    ]
 
     pub tidy_after : IsTidy plan new
     tidy_after = tidy_by plan new balanced caused_new once_new ends_new
 
   -- where no end is brought, the ends that are owed have those that give them
   pub ends_kept : ((r k e : ℕ) → ¬ (Contains more (End r k e))) → (r k e : ℕ) → times more (End r k e) + givers plan (facts_of old.banks) r k e ≤ givers plan (facts_of new.banks) r k e
-  ends_kept none r k e = omega (arith, times-none more (End r k e) (none r k e), done.counted (gives plan r k e), count-after (gives plan r k e) plan log step)
+  ends_kept none r k e = omega (arith, times_none more (End r k e) (none r k e), done.counted (gives plan r k e), count_after (gives plan r k e) plan log step)

@@ -1,20 +1,23 @@
 -- What a claimed descriptor brings, by the symbol behind its dot.
-use Rattle.std.proofs.Common.{◌≡◌, ℕ, ◌+◌, ◌<◌, Bool, List, [], ◌∷◌, Contains, length, Option, Some, None, slice_get, refl, sym, ap, ◌∙◌, subst, ◌⊎◌, inl, inr, arith}
+use Rattle.std.proofs.Common.{◌≡◌, ℕ, ◌+◌, ◌<◌, ◌≤◌, Bool, List, [], ◌∷◌, length, Contains, Option, Some, None, slice_get, refl, sym, ap, ◌∙◌, subst, ◌⊎◌, inl, inr, arith}
 use Rattle.std.proofs.lemmas.Option.{slice_get-get_or, get_or_from_slice_get}
-use Rattle.ix_model.specs.declared.grammar.Mark.{Mark}
 use Rattle.ix_model.specs.declared.rules.Sym.{Sym}
 use Rattle.ix_model.specs.declared.rules.Sym.TheVariants as sy
 use Rattle.ix_model.specs.declared.rules.Terminal.{Terminal}
 use Rattle.ix_model.specs.declared.rules.Terminal.TheVariants as terminal
-use Rattle.ix_model.specs.Parts.{Parts}
-use Rattle.ix_model.specs.Planned.{IsPlanned}
 use Rattle.ix_model.specs.FlatDerives.{IsTerminal, TerminalMatches}
 use Rattle.ix_model.specs.Numbered.{terminal_at}
+use Rattle.ix_model.specs.Parts.{Parts}
+use Rattle.ix_model.specs.Planned.{IsPlanned}
 use Rattle.ix_model.specs.Slots.{info_at, sym_after}
-use Rattle.ix_model.specs.SlotPlaces.{HasNext, IsLast}
 use Rattle.ix_model.proofs.SlotReaders.{next_reads, last_reads, reads_next, reads_last}
+use Rattle.ix_cluster.specs.declared.fact.Fact.{Fact}
+use Rattle.ix_cluster.specs.declared.fact.Fact.TheVariants as fact
+use Rattle.ix_cluster.proofs.Members.{one_has, none_has}
 use Rattle.ix_closure.specs.declared.owed.Owed.{Owed}
-use Rattle.ix_closure.specs.declared.owed.Owed.TheVariants.{Claim, Edge, End, Arrive}
+use Rattle.ix_closure.specs.declared.owed.Owed.TheVariants.{Edge, End, Arrive}
+use Rattle.ix_closure.specs.Due.{IsDue}
+use Rattle.ix_closure.specs.Due as due
 use Rattle.ix_closure.specs.Follows.{FollowsDesc, passes, stops, inserts, calls, ends, sub_of}
 
 -- a terminal ends at one place
@@ -53,6 +56,7 @@ module _ (plan : Parts) (planned : IsPlanned plan) (s l p : ℕ) where
   by_symbol : (x : Sym) (more : List Owed) → sym_after plan s ≡ Some x → FollowsBy plan s l p (Some x) more → FollowsBy plan s l p (sym_after plan s) more
   by_symbol x more e w = subst (λ o. FollowsBy plan s l p o more) (sym e) w
 
+  -- and back
   pub follows_reads : (more : List Owed) → FollowsDesc plan s l p more → FollowsBy plan s l p (sym_after plan s) more
   follows_reads more (passes x after e next m) =
       let r = next_reads plan planned s after x next in
@@ -79,9 +83,9 @@ module _ (plan : Parts) (planned : IsPlanned plan) (s l p : ℕ) where
   one_by (Some (sy.Term t shown)) a b (inr (none, v)) (inl (e, n, w)) = absurd (none e n)
   one_by (Some (sy.Term t shown)) a b (inr (none, v)) (inr (none', w)) = v ∙ sym w
 
-  -- a descriptor brings one list of steps
-  pub one_follows : (a b : List Owed) → FollowsDesc plan s l p a → FollowsDesc plan s l p b → a ≡ b
-  one_follows a b v w = one_by (sym_after plan s) a b (follows_reads a v) (follows_reads b w)
+  -- so a descriptor brings one list of steps
+  pub follows_same : (a b : List Owed) → FollowsDesc plan s l p a → FollowsDesc plan s l p b → a ≡ b
+  follows_same a b v w = one_by (sym_after plan s) a b (follows_reads a v) (follows_reads b w)
 
   -- a terminal that stands there, and one that does not, by the number of the terminal
   pub passes_term : (t : ℕ) (shown : Bool) (after e : ℕ) → s < length plan.slots → sym_after plan s ≡ Some (sy.Term t shown) → t < length plan.rules.terminals → TerminalMatches plan.text (terminal_at plan.rules t) p e → after ≡ s + 1 → FollowsDesc plan s l p (Arrive (sub_of after l p e) ∷ [])
@@ -97,3 +101,19 @@ module _ (plan : Parts) (planned : IsPlanned plan) (s l p : ℕ) where
           let number : m.0 ≡ t = (cc (m.3)) in
           let same : terminal_at plan.rules t ≡ m.2 = get_or_from_slice_get plan.rules.terminals t m.2 (terminal.Lit []) (ap (slice_get plan.rules.terminals) (sym number) ∙ m.4) in
           none e (subst (λ (z : Terminal). TerminalMatches plan.text z p e) (sym same) m.5)
+
+-- it is one step at most
+pub follows_few : (plan : Parts) (s l p : ℕ) (more : List Owed) → FollowsDesc plan s l p more → length more ≤ 1
+follows_few plan s l p more (passes x after e next t) = omega arith
+follows_few plan s l p more (stops t shown after next none) = omega arith
+follows_few plan s l p more (inserts n after next) = omega arith
+follows_few plan s l p more (calls r after mark next) = omega arith
+follows_few plan s l p more (ends r last) = omega arith
+
+-- and it is due, where the descriptor is claimed
+pub follows_due : (plan : Parts) (Holds : Fact → Type 0) (s l p : ℕ) (more : List Owed) (o : Owed) → Holds (fact.Claim s l p) → FollowsDesc plan s l p more → Contains more o → IsDue plan Holds o
+follows_due plan Holds s l p more o h (passes x after e next t) c = subst (IsDue plan Holds) (one_has (Arrive (sub_of after l p e)) o c) (due.passed s l p after e x h next t)
+follows_due plan Holds s l p more o h (stops t shown after next none) c = absurd (none_has o c)
+follows_due plan Holds s l p more o h (inserts n after next) c = subst (IsDue plan Holds) (one_has (Arrive (sub_of after l p p)) o c) (due.inserted s l p after n h next)
+follows_due plan Holds s l p more o h (calls r after mark next) c = subst (IsDue plan Holds) (one_has (Edge r p s l) o c) (due.waits s l p after r mark h next)
+follows_due plan Holds s l p more o h (ends r last) c = subst (IsDue plan Holds) (one_has (End r l p) o c) (due.ends s l p r h last)

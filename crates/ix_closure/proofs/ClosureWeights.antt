@@ -11,34 +11,35 @@ use Rattle.ix_cluster.specs.Seen.{Bank}
 use Rattle.ix_cluster.specs.Sound.{AreSound}
 use Rattle.ix_closure.specs.Closure.{IsClosure}
 use Rattle.ix_closure.specs.Quantity.{step_bound}
-use Rattle.ix_closure.proofs.Once.{facts_once}
-use Rattle.ix_closure.proofs.Recording.{recorded_closed}
-use Rattle.ix_closure.proofs.Sublists.{tallied, fewer, fewer_by, fewer_pairs}
+use Rattle.ix_closure.proofs.FactsOnce.{facts_once}
+use Rattle.ix_closure.proofs.LogCounts.{tallied}
+use Rattle.ix_closure.proofs.RecordedFacts.{recorded_closed}
+use Rattle.ix_closure.proofs.Sublists.{fewer, fewer_by, fewer_pairs}
 use Rattle.ix_closure.proofs.Weights.{is_claim, weight, weight_in, weight_of_facts}
 
 -- the descriptor that a claim is of
-claimed : Fact → Fact
-claimed (Claim s l p) = Desc s l p
-claimed f = f
+descriptor_fact : Fact → Fact
+descriptor_fact (Claim s l p) = Desc s l p
+descriptor_fact f = f
 
 -- the claim of a descriptor
-claim_for : Fact → Fact
-claim_for (Desc s l p) = Claim s l p
-claim_for f = f
+claim_fact : Fact → Fact
+claim_fact (Desc s l p) = Claim s l p
+claim_fact f = f
 
-claim_again : (f : Fact) → is_claim f ≡ true → claim_for (claimed f) ≡ f
-unfolding claimed claim_for
+claim_again : (f : Fact) → is_claim f ≡ true → claim_fact (descriptor_fact f) ≡ f
+unfolding descriptor_fact claim_fact
 claim_again (Claim s l p) e = refl
 claim_again f e = absurd (cc e)
 
 -- no two claims are of one descriptor
-one_claim : (a b : Fact) → is_claim a ≡ true → is_claim b ≡ true → claimed a ≡ claimed b → a ≡ b
-one_claim a b e w same = sym (claim_again a e) ∙ ap claim_for same ∙ claim_again b w
+one_claim : (a b : Fact) → is_claim a ≡ true → is_claim b ≡ true → descriptor_fact a ≡ descriptor_fact b → a ≡ b
+one_claim a b e w same = sym (claim_again a e) ∙ ap claim_fact same ∙ claim_again b w
 
 module _ (plan : Parts) (all : List Fact) (closure : IsClosure plan all) where
   -- a claim's descriptor is among all
-  descriptor_there : (f : Fact) → IsInClosed plan f → is_claim f ≡ true → Contains all (claimed f) × (is_descriptor (claimed f) ≡ true)
-  unfolding claimed
+  descriptor_there : (f : Fact) → IsInClosed plan f → is_claim f ≡ true → Contains all (descriptor_fact f) × (is_descriptor (descriptor_fact f) ≡ true)
+  unfolding descriptor_fact
   descriptor_there (Claim s l p) h e = (closure.all (Desc s l p) h, refl)
   descriptor_there f h e = absurd (cc e)
 
@@ -50,7 +51,7 @@ module _ (plan : Parts) (all : List Fact) (closure : IsClosure plan all) where
         tallied is_claim facts,
         tallied is_descriptor all,
         fewer is_descriptor facts all once (λ f h _. closure.all f (closed f h)),
-        fewer_by is_claim is_descriptor claimed one_claim facts all once (λ f h e. descriptor_there f (closed f h) e),
+        fewer_by is_claim is_descriptor descriptor_fact one_claim facts all once (λ f h e. descriptor_there f (closed f h) e),
         fewer_pairs facts all once (λ f h. closure.all f (closed f h)),
       )
 

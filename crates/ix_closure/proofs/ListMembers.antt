@@ -1,8 +1,8 @@
 -- What lists have that are made of other lists.
-use Rattle.std.proofs.Common.{◌≡◌, ℕ, zero, suc, Bool, true, false, cond, List, [], ◌∷◌, ◌++◌, Contains, map, remove, Option, Some, None, slice_get, refl, sym, ap, ◌∙◌, subst, ◌⊎◌, inl, inr, arith}
-use Rattle.std.specs.List.{filter_map, flat_map, cons_option}
+use Rattle.std.proofs.Common.{◌≡◌, ℕ, zero, suc, List, [], ◌∷◌, map, remove, Contains, Option, Some, None, slice_get, refl, sym, ap, ◌∙◌, subst, ◌⊎◌, inl, inr}
+use Rattle.std.specs.List.{All, filter_map, flat_map, cons_option}
 use Rattle.std.proofs.lemmas.List.Concat.{flat_map-cons}
-use Rattle.std.proofs.lemmas.List.Elements.{Contains-append_left, Contains-append_right, Contains-append_cases}
+use Rattle.std.proofs.lemmas.List.Elements.{All-contains_itself, All-weaker, Contains-append_left, Contains-append_right, Contains-append_cases}
 use Rattle.ix_cluster.proofs.Members.{first_has, rest_has, either_has, none_has}
 
 module _ {X : Type 0} where
@@ -17,6 +17,9 @@ module _ {X : Type 0} where
     | inl e ↦ (0, ap Some e)
     | inr r ↦ let p = place_in ys x r in (suc p.0, p.1)
   ]
+
+  pub all_have : (P : X → Type 0) (xs : List X) → ((x : X) → Contains xs x → P x) → All P xs
+  all_have P xs h = All-weaker (Contains xs) P h xs (All-contains_itself xs)
 
   -- what is left was there
   pub left_was : (xs : List X) (n : ℕ) (x : X) → Contains (remove xs n) x → Contains xs x

@@ -1,15 +1,12 @@
 -- A step brings no more steps than what it adds to its bank's weight.
-use Rattle.std.proofs.Common.{◌≡◌, ℕ, ◌+◌, ◌≤◌, Bool, true, false, cond, not, eqb, List, [], ◌∷◌, ◌++◌, length, length-append, map, Contains, count_by, refl, sym, ap, ◌∙◌, subst, arith}
-use Rattle.std.specs.List.{IsDistinct}
+use Rattle.std.proofs.Common.{◌≡◌, ℕ, ◌+◌, ◌≤◌, Bool, true, false, cond, not, List, [], ◌∷◌, ◌++◌, length, length-append, map, count_by, Contains, refl, sym, ap, ◌∙◌, subst, arith}
 use Rattle.std.proofs.lemmas.Bool.Decides.{nat_tests}
 use Rattle.std.proofs.lemmas.List.{length-map}
-use Rattle.std.proofs.lemmas.List.Elements.{All-from_recursion, All-contains}
-use Rattle.std.proofs.lemmas.Map.Keys.{IsDistinct-head, IsDistinct-tail}
 use Rattle.ix_model.specs.declared.sub.Sub.{Sub}
 use Rattle.ix_model.specs.Parts.{Parts}
 use Rattle.ix_model.specs.Planned.{IsPlanned}
-use Rattle.ix_cluster.specs.declared.answers.Claimed.TheVariants.{Mine, Taken, Unknown}
 use Rattle.ix_cluster.specs.declared.answers.Arrived.TheVariants.{Fresh, Known}
+use Rattle.ix_cluster.specs.declared.answers.Claimed.TheVariants.{Mine, Taken, Unknown}
 use Rattle.ix_cluster.specs.declared.fact.Fact.{Fact}
 use Rattle.ix_cluster.specs.declared.fact.Fact.TheVariants as fact
 use Rattle.ix_cluster.specs.Banks.{is_descriptor}
@@ -24,35 +21,18 @@ use Rattle.ix_cluster.proofs.Members.{first_has, rest_has}
 use Rattle.ix_closure.specs.declared.owed.Owed.{Owed}
 use Rattle.ix_closure.specs.declared.owed.Owed.TheVariants.{Claim, Edge, End, Arrive}
 use Rattle.ix_closure.specs.Events.{log_after}
-use Rattle.ix_closure.specs.Follows.{Follows, FollowsClaim, FollowsDesc, passes, stops, inserts, calls, ends, arrival, claims_at, opened, met_ends, met_edges, claim_of}
-use Rattle.ix_closure.proofs.FirstsOnce.{firsts_once}
-use Rattle.ix_closure.proofs.Weights.{is_claim, weight, count_put, count_put_new}
+use Rattle.ix_closure.specs.Follows.{Follows, FollowsClaim, arrival, claims_at, opened, met_ends, met_edges, claim_of}
+use Rattle.ix_closure.proofs.DescriptorSteps.{follows_few}
+use Rattle.ix_closure.proofs.FirstSlots.{firsts_once}
+use Rattle.ix_closure.proofs.LogCounts.{count_put, count_put_new, count_call}
+use Rattle.ix_closure.proofs.OnceEach.{IsOnceEach}
+use Rattle.ix_closure.proofs.Weights.{is_claim, weight}
 
 -- ---- a call
 
-module _ (p : Fact → Bool) (plan : Parts) (k : ℕ) where
-  count_first : (log : List Fact) (s : ℕ) → count_by p log ≤ count_by p (after_first plan k log s)
-  count_first log s = by (is_at_end plan s)
-    where
-      by : (b : Bool) → count_by p log ≤ count_by p (cond b (put (put log (fact.Desc s k k)) (fact.Part (empty_sub s k))) (put log (fact.Desc s k k)))
-      by true = omega (arith, count_put p log (fact.Desc s k k), count_put p (put log (fact.Desc s k k)) (fact.Part (empty_sub s k)))
-      by false = count_put p log (fact.Desc s k k)
-
-  count_firsts : (firsts : List ℕ) (log : List Fact) → count_by p log ≤ count_by p (after_firsts plan k firsts log)
-  count_firsts [] log = omega arith
-  count_firsts (s ∷ ss) log = omega (arith, count_first log s, count_firsts ss (after_first plan k log s))
-
-  -- a call forgets nothing that is counted
-  pub count_call : (log : List Fact) (r : ℕ) → count_by p log ≤ count_by p (after_call plan log r k)
-  count_call log r = by (has log (fact.Called r k))
-    where
-      by : (b : Bool) → count_by p log ≤ count_by p (cond b log (after_firsts plan k (firsts_of plan r) (put log (fact.Called r k))))
-      by true = omega arith
-      by false = omega (arith, count_put p log (fact.Called r k), count_firsts (firsts_of plan r) (put log (fact.Called r k)))
-
 module _ (plan : Parts) (k : ℕ) where
   -- the descriptor of another alternative is there as before
-  first_other : (log : List Fact) (s t : ℕ) → eqb s t ≡ false → has (after_first plan k log s) (fact.Desc t k k) ≡ has log (fact.Desc t k k)
+  first_other : (log : List Fact) (s t : ℕ) → (s ≡ t → ⊥) → has (after_first plan k log s) (fact.Desc t k k) ≡ has log (fact.Desc t k k)
   first_other log s t apart = by (is_at_end plan s)
     where
       desc : has (put log (fact.Desc s k k)) (fact.Desc t k k) ≡ has log (fact.Desc t k k)
@@ -69,34 +49,27 @@ module _ (plan : Parts) (k : ℕ) where
       by true = omega (arith, count_put_new is_descriptor log (fact.Desc s k k) none refl, count_put is_descriptor (put log (fact.Desc s k k)) (fact.Part (empty_sub s k)))
       by false = count_put_new is_descriptor log (fact.Desc s k k) none refl
 
-  descriptor_firsts : (firsts : List ℕ) (log : List Fact) → IsDistinct eqb firsts → ((s : ℕ) → Contains firsts s → has log (fact.Desc s k k) ≡ false) → count_by is_descriptor log + length firsts ≤ count_by is_descriptor (after_firsts plan k firsts log)
+  descriptor_firsts : (firsts : List ℕ) (log : List Fact) → IsOnceEach firsts → ((s : ℕ) → Contains firsts s → has log (fact.Desc s k k) ≡ false) → count_by is_descriptor log + length firsts ≤ count_by is_descriptor (after_firsts plan k firsts log)
+  unfolding IsOnceEach
   descriptor_firsts [] log once none = omega arith
   descriptor_firsts (s ∷ ss) log once none =
       omega (
         arith,
         descriptor_first log s (none s (first_has s ss)),
-        descriptor_firsts ss (after_first plan k log s) (IsDistinct-tail eqb s ss once) (λ t h. first_other log s t (All-contains (λ t. eqb s t ≡ false) ss t (All-from_recursion (λ t. eqb s t ≡ false) ss (IsDistinct-head eqb s ss once)) h) ∙ none t (rest_has s ss t h)),
+        descriptor_firsts ss (after_first plan k log s) once.1 (λ t h. first_other log s t (λ e. once.0 (subst (Contains ss) (sym e) h)) ∙ none t (rest_has s ss t h)),
       )
 
   -- a call of alternatives of which none is there adds a descriptor for each
-  pub descriptor_call : (log : List Fact) (r : ℕ) → has log (fact.Called r k) ≡ false → IsDistinct eqb (firsts_of plan r) → ((s : ℕ) → Contains (firsts_of plan r) s → has log (fact.Desc s k k) ≡ false) → count_by is_descriptor log + length (firsts_of plan r) ≤ count_by is_descriptor (after_call plan log r k)
-  descriptor_call log r none once fresh =
+  pub descriptor_call : IsPlanned plan → (log : List Fact) (r : ℕ) → has log (fact.Called r k) ≡ false → ((s : ℕ) → Contains (firsts_of plan r) s → has log (fact.Desc s k k) ≡ false) → count_by is_descriptor log + length (firsts_of plan r) ≤ count_by is_descriptor (after_call plan log r k)
+  descriptor_call planned log r none fresh =
       subst (λ b. count_by is_descriptor log + length (firsts_of plan r) ≤ count_by is_descriptor (cond b log (after_firsts plan k (firsts_of plan r) (put log (fact.Called r k))))) (sym none)
       (omega (
         arith,
         count_put is_descriptor log (fact.Called r k),
-        descriptor_firsts (firsts_of plan r) (put log (fact.Called r k)) once (λ s h. has-put_other log (fact.Called r k) (fact.Desc s k k) refl ∙ fresh s h),
+        descriptor_firsts (firsts_of plan r) (put log (fact.Called r k)) (firsts_once plan planned r) (λ s h. has-put_other log (fact.Called r k) (fact.Desc s k k) refl ∙ fresh s h),
       ))
 
 -- ---- the steps
-
--- a descriptor brings one step at most
-one_follows : (plan : Parts) (s l p : ℕ) (more : List Owed) → FollowsDesc plan s l p more → length more ≤ 1
-one_follows plan s l p more (passes x after e next t) = omega arith
-one_follows plan s l p more (stops t shown after next none) = omega arith
-one_follows plan s l p more (inserts n after next) = omega arith
-one_follows plan s l p more (calls r after mark next) = omega arith
-one_follows plan s l p more (ends r last) = omega arith
 
 -- a rule is called before any of its alternatives is begun
 abbrev pub IsFresh : Parts → List Fact → Type 0
@@ -112,7 +85,7 @@ module _ (plan : Parts) (planned : IsPlanned plan) (log : List Fact) (fresh : Is
       by true false e one =
           omega (
             arith,
-            one_follows plan s l p more one,
+            follows_few plan s l p more one,
             count_put is_descriptor log (fact.Claim s l p),
             count_put_new is_claim log (fact.Claim s l p) e refl,
             handed-put_other log (fact.Claim s l p) (claim-none s l p),
@@ -168,7 +141,7 @@ module _ (plan : Parts) (planned : IsPlanned plan) (log : List Fact) (fresh : Is
       -- the claims of a cluster that is called now
       called : (c : Bool) → has log (fact.Called r k) ≡ c → length (cond (not c) (claims_at k (firsts_of plan r)) []) + count_by is_descriptor log ≤ count_by is_descriptor (after_call plan log r k)
       called true w = omega (arith, count_call is_descriptor plan k log r)
-      called false w = omega (arith, length-map (firsts_of plan r) (λ a. Claim a k k), descriptor_call plan k log r w (firsts_once plan planned r) (fresh r k w))
+      called false w = omega (arith, length-map (firsts_of plan r) (λ a. Claim a k k), descriptor_call plan k planned log r w (fresh r k w))
 
       by : (c : Bool) → has log (fact.Edge r k s l) ≡ c → more ≡ cond (cond c false (not (has log (fact.Called r k)))) (claims_at k (firsts_of plan r)) [] ++ map arrive (cond c [] (ends_in log (cluster r k))) → length more + weight log ≤ weight (cond c log (put (after_call plan log r k) (fact.Edge r k s l)))
       by true w none = omega (arith, ap length none)

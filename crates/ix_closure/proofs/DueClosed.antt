@@ -1,15 +1,16 @@
 -- What follows from facts of the closure is in the closure.
-use Rattle.std.proofs.Common.{ℕ}
-use Rattle.ix_model.specs.declared.sub.Sub.{Sub}
-use Rattle.ix_model.specs.Parts.{Parts}
+use Rattle.std.proofs.Common.{Contains}
 use Rattle.ix_model.specs.Closed as closed
+use Rattle.ix_model.specs.Parts.{Parts}
 use Rattle.ix_cluster.specs.declared.fact.Fact.{Fact}
 use Rattle.ix_cluster.specs.declared.fact.Fact.TheVariants as fact
 use Rattle.ix_cluster.specs.ClosedFacts.{IsInClosed}
 use Rattle.ix_closure.specs.declared.owed.Owed.{Owed}
-use Rattle.ix_closure.specs.declared.owed.Owed.TheVariants as step
-use Rattle.ix_closure.specs.Due.{IsDue, claim, passed, inserted, waits, ends, meets}
+use Rattle.ix_closure.specs.Balance.{IsBalanced}
+use Rattle.ix_closure.specs.Due.{IsDue, IsRecorded, claim, passed, inserted, waits, ends, meets}
 use Rattle.ix_closure.specs.Follows.{fact_of}
+use Rattle.ix_closure.specs.Seen.{State}
+use Rattle.ix_closure.proofs.RecordedFacts.{recorded_closed}
 
 module _ (plan : Parts) (Holds : Fact → Type 0) (true_fact : (f : Fact) → Holds f → IsInClosed plan f) where
   -- what a due step is to record
@@ -21,18 +22,6 @@ module _ (plan : Parts) (Holds : Fact → Type 0) (true_fact : (f : Fact) → Ho
   due_closed o (ends s l p r h last) = closed.ended s l p r (true_fact (fact.Claim s l p) h) last
   due_closed o (meets r k s l e after mark edge end next) = closed.joined r k s l e after mark (true_fact (fact.Edge r k s l) edge) (true_fact (fact.End r k e) end) next
 
-  -- the descriptor that a claim is of
-  abbrev pub DescOf : Owed → Type 0
-  DescOf (step.Claim s l p) = Holds (fact.Desc s l p)
-  DescOf (step.Edge r k s l) = Unit {0}
-  DescOf (step.End r k e) = Unit {0}
-  DescOf (step.Arrive sub) = Unit {0}
-
-  -- a due claim is of a descriptor that holds
-  pub due_desc : (o : Owed) → IsDue plan Holds o → DescOf o
-  due_desc o (claim s l p h) = h
-  due_desc o (passed s l p after e x h n t) = tt
-  due_desc o (inserted s l p after n h next) = tt
-  due_desc o (waits s l p after r mark h next) = tt
-  due_desc o (ends s l p r h last) = tt
-  due_desc o (meets r k s l e after mark edge end next) = tt
+-- so what an owed step of a balanced state is to record
+pub owed_closed : (plan : Parts) (state : State) → IsBalanced plan state → (o : Owed) → Contains state.owed o → IsInClosed plan (fact_of o)
+owed_closed plan state balanced o h = due_closed plan (IsRecorded state.banks) (recorded_closed plan state.banks balanced.sound) o (balanced.caused o h)
