@@ -6,5 +6,6 @@ pub mod Handing
 pub mod ListLemmas
 pub mod Listing
 pub mod Members
+pub mod Pairs
 pub mod SmallBanks
 pub mod Soundness

@@ -4,6 +4,7 @@ pub mod Facts
 pub mod Firsts
 pub mod Handed
 pub mod Homes
+pub mod Laws
 pub mod Listed
 pub mod Lists
 pub mod Room

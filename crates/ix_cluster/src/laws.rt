@@ -1,4 +1,4 @@
-//! Worked examples of the definitions. Each function's contract is the example; the bodies are empty.
+//! Laws and worked examples of the definitions. Each function's contract is the law or the example; the bodies are empty.
 ghost use Rattle.std.specs.Prelude.{◌≡◌, ◌≢◌, ℕ, [], ◌∷◌, true, false, codes, Some, None, Contains};
 ghost use Rattle.std.specs.List.{count_by, filter_map, fold};
 ghost use Rattle.ix_model.specs.ExamplePlans.{cycle, nothing};
@@ -11,6 +11,7 @@ ghost use Rattle.ix_cluster.specs.Facts.{has, put, same_fact};
 ghost use Rattle.ix_cluster.specs.Firsts.{first_slot, firsts_of, is_at_end};
 ghost use Rattle.ix_cluster.specs.Handed.{meets, pair_count};
 ghost use Rattle.ix_cluster.specs.Homes.{home, home_of};
+ghost use Rattle.ix_cluster.specs.Laws.{AreClustersOf, edges_times_ends, PairsAreByCluster};
 ghost use Rattle.ix_cluster.specs.Lists.{cluster, same_cluster};
 ghost use Rattle.ix_cluster.specs.Room.{is_unclaimed, unclaimed_in, HasRoom};
 ghost use Rattle.ix_cluster.specs.Sound.{AreTrue, HasCompanions, IsSound, AreSound};
@@ -91,6 +92,20 @@ pub fn pairs_are_of_one_cluster()
     ensures none { meets (End 0 0 1) (Edge 0 1 2 0) ≡ false }
     ensures count { pair_count (Edge 0 0 2 0 ∷ End 0 0 1 ∷ Edge 0 0 3 0 ∷ End 0 1 1 ∷ End 0 0 4 ∷ []) ≡ 4 }
     ensures clusters { same_cluster (cluster 0 1) (cluster 1 0) ≡ false }
+{}
+
+/// The pairs of an edge and an end are, over all clusters, the edges times the ends.
+pub fn pairs_are_by_cluster()
+    ensures { PairsAreByCluster }
+{}
+
+/// Of two edges and one end of one cluster and an end of another there are two pairs. A list of clusters names each once.
+pub fn clusters_of_a_log()
+    ensures clusters { AreClustersOf (Edge 0 0 2 0 ∷ Edge 0 0 3 0 ∷ End 0 0 1 ∷ End 0 1 1 ∷ []) (cluster 0 0 ∷ cluster 0 1 ∷ []) }
+    ensures two { edges_times_ends (Edge 0 0 2 0 ∷ Edge 0 0 3 0 ∷ End 0 0 1 ∷ End 0 1 1 ∷ []) (cluster 0 0) ≡ 2 }
+    ensures none { edges_times_ends (Edge 0 0 2 0 ∷ Edge 0 0 3 0 ∷ End 0 0 1 ∷ End 0 1 1 ∷ []) (cluster 0 1) ≡ 0 }
+    ensures missing { ¬ (AreClustersOf (End 0 1 1 ∷ []) (cluster 0 0 ∷ [])) }
+    ensures twice { ¬ (AreClustersOf [] (cluster 0 0 ∷ cluster 0 0 ∷ [])) }
 {}
 
 /// A descriptor waits until its own claim is there.
