@@ -2,6 +2,7 @@ pub mod Beginning
 pub mod Calls
 pub mod Counts
 pub mod FactLemmas
+pub mod Furthest
 pub mod Handing
 pub mod ListLemmas
 pub mod Listing

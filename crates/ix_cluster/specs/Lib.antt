@@ -2,6 +2,7 @@ pub mod Banks
 pub mod ClosedFacts
 pub mod Facts
 pub mod Firsts
+pub mod Furthest
 pub mod Handed
 pub mod Homes
 pub mod Laws

@@ -2,6 +2,7 @@
 ghost use Rattle.std.specs.Prelude.{◌≡◌, ◌<◌, ◌≤◌, ◌+◌, ◌++◌, length, slice_get, Some, IfOk, OnOk};
 ghost use Rattle.std.specs.List.{count_by, filter_map, fold};
 ghost use Rattle.ix_cluster.specs.Banks.{opening, opening_bank, facts_of, later_of, is_descriptor, sub_of};
+ghost use Rattle.ix_cluster.specs.Furthest.{IsFurthest};
 ghost use Rattle.ix_cluster.specs.Sound.{IsSound, AreSound};
 
 use crate::bank::Bank;
@@ -53,7 +54,8 @@ impl Banks {
 
     /// The greatest position of a descriptor, or 0, in characters from 0.
     pub fn furthest(&self) -> u32
-        ensures { result ≡ fold later_of 0 (facts_of self.now.banks.items) }
+        ensures value { result ≡ fold later_of 0 (facts_of self.now.banks.items) }
+        ensures greatest { IsFurthest (facts_of self.now.banks.items) result }
     {
         let mut furthest = 0;
         for bank in &self.banks {

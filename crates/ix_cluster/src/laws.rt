@@ -9,9 +9,10 @@ ghost use Rattle.ix_cluster.specs.Banks.{opening, opening_bank, facts_of, later_
 ghost use Rattle.ix_cluster.specs.ClosedFacts.{IsInClosed};
 ghost use Rattle.ix_cluster.specs.Facts.{has, put, same_fact};
 ghost use Rattle.ix_cluster.specs.Firsts.{first_slot, firsts_of, is_at_end};
+ghost use Rattle.ix_cluster.specs.Furthest.{IsFurthest};
 ghost use Rattle.ix_cluster.specs.Handed.{meets, pair_count};
 ghost use Rattle.ix_cluster.specs.Homes.{home, home_of};
-ghost use Rattle.ix_cluster.specs.Laws.{AreClustersOf, edges_times_ends, PairsAreByCluster};
+ghost use Rattle.ix_cluster.specs.Laws.{AreClustersOf, edges_times_ends, PairsAreByCluster, IsLaterOf, LaterIsGreatest};
 ghost use Rattle.ix_cluster.specs.Lists.{cluster, same_cluster};
 ghost use Rattle.ix_cluster.specs.Room.{is_unclaimed, unclaimed_in, HasRoom};
 ghost use Rattle.ix_cluster.specs.Sound.{AreTrue, HasCompanions, IsSound, AreSound};
@@ -129,6 +130,21 @@ pub fn banks_are_read_in_order()
     ensures furthest { fold later_of 0 (Desc 1 0 3 ∷ Claim 1 0 4 ∷ Desc 0 1 1 ∷ []) ≡ 3 }
     ensures descriptors { count_by is_descriptor (Desc 1 0 3 ∷ Claim 1 0 3 ∷ Desc 0 1 1 ∷ []) ≡ 2 }
     ensures subtrees { filter_map sub_of (Desc 1 0 3 ∷ Part (empty_sub 0 1) ∷ []) ≡ empty_sub 0 1 ∷ [] }
+{}
+
+/// The later of a position and those of some facts is the greatest of that position and the descriptors'.
+pub fn later_is_greatest()
+    ensures { LaterIsGreatest }
+{}
+
+/// Claims and subtrees do not count for the furthest position; without a descriptor it is 0.
+pub fn furthest_is_a_descriptors()
+    ensures furthest { IsFurthest (Desc 1 0 3 ∷ Claim 1 0 4 ∷ Desc 0 1 1 ∷ []) 3 }
+    ensures none { IsFurthest (Called 0 2 ∷ []) 0 }
+    ensures too_small { ¬ (IsFurthest (Desc 1 0 3 ∷ Desc 0 1 1 ∷ []) 1) }
+    ensures too_great { ¬ (IsFurthest (Desc 1 0 3 ∷ []) 4) }
+    ensures later { IsLaterOf 2 (Desc 0 1 1 ∷ []) 2 }
+    ensures not_later { ¬ (IsLaterOf 2 (Desc 0 1 1 ∷ []) 1) }
 {}
 
 /// The first rule is called at the start and not behind the text, and a claim is in the closure with its descriptor.
