@@ -7,13 +7,15 @@ ghost use Rattle.ix_cluster.specs.declared.answers.Claimed.TheVariants as claime
 ghost use Rattle.ix_cluster.specs.declared.fact.Fact.TheVariants.{Called, Edge, End, Desc, Part, Claim};
 ghost use Rattle.ix_cluster.specs.Banks.{opening, opening_bank, facts_of, later_of, is_descriptor, sub_of};
 ghost use Rattle.ix_cluster.specs.ClosedFacts.{IsInClosed};
+ghost use Rattle.ix_cluster.specs.Examples.{two_ends, three_ends, one_edge, no_ends, empty_lists};
 ghost use Rattle.ix_cluster.specs.Facts.{has, put, same_fact};
 ghost use Rattle.ix_cluster.specs.Firsts.{first_slot, firsts_of, is_at_end};
 ghost use Rattle.ix_cluster.specs.Furthest.{IsFurthest};
-ghost use Rattle.ix_cluster.specs.Handed.{meets, pair_count};
+ghost use Rattle.ix_cluster.specs.Handed.{meets, pair_count, IsKept};
 ghost use Rattle.ix_cluster.specs.Homes.{home, home_of};
 ghost use Rattle.ix_cluster.specs.Laws.{AreClustersOf, edges_times_ends, PairsAreByCluster, IsLaterOf, LaterIsGreatest};
-ghost use Rattle.ix_cluster.specs.Lists.{cluster, same_cluster};
+ghost use Rattle.ix_cluster.specs.Listed.{AreListed};
+ghost use Rattle.ix_cluster.specs.Lists.{cluster, same_cluster, list_at, PushesAt, KeepsLists};
 ghost use Rattle.ix_cluster.specs.Room.{is_unclaimed, unclaimed_in, HasRoom};
 ghost use Rattle.ix_cluster.specs.Sound.{AreTrue, HasCompanions, IsSound, AreSound};
 ghost use Rattle.ix_cluster.specs.Steps.{empty_sub, claim_answer, after_claim, arrival_answer, after_arrival, edges_in, ends_in, end_answer, after_call, after_edge, edge_is_first, edge_answer};
@@ -107,6 +109,31 @@ pub fn clusters_of_a_log()
     ensures none { edges_times_ends (Edge 0 0 2 0 ∷ Edge 0 0 3 0 ∷ End 0 0 1 ∷ End 0 1 1 ∷ []) (cluster 0 1) ≡ 0 }
     ensures missing { ¬ (AreClustersOf (End 0 1 1 ∷ []) (cluster 0 0 ∷ [])) }
     ensures twice { ¬ (AreClustersOf [] (cluster 0 0 ∷ cluster 0 0 ∷ [])) }
+{}
+
+/// A cluster that the map lacks has an empty list.
+pub fn lists_are_kept_by_cluster()
+    ensures own { list_at two_ends (cluster 0 1) ≡ 4 ∷ [] }
+    ensures none { list_at two_ends (cluster 1 0) ≡ [] }
+    ensures other { list_at two_ends (cluster 0 0) ≢ 4 ∷ [] }
+{}
+
+/// An end goes behind those of its cluster, and no other list changes. To make room for an empty list changes no list.
+pub fn lists_change_at_one_cluster()
+    ensures pushes { PushesAt two_ends (cluster 0 0) 2 three_ends }
+    ensures elsewhere { ¬ (PushesAt two_ends (cluster 0 1) 2 three_ends) }
+    ensures nothing { ¬ (PushesAt two_ends (cluster 0 0) 2 two_ends) }
+    ensures keeps { KeepsLists no_ends empty_lists }
+    ensures changes { ¬ (KeepsLists two_ends three_ends) }
+{}
+
+/// A bank's lists are those of its log, and each pair of an edge and an end is counted once.
+pub fn bank_keeps_lists_of_its_log()
+    ensures listed { AreListed (Edge 0 0 2 0 ∷ End 0 0 1 ∷ End 0 1 4 ∷ []) one_edge two_ends }
+    ensures one_missing { ¬ (AreListed (Edge 0 0 2 0 ∷ End 0 0 1 ∷ []) one_edge two_ends) }
+    ensures other_order { ¬ (AreListed (End 0 0 2 ∷ End 0 0 1 ∷ End 0 1 4 ∷ Edge 0 0 2 0 ∷ []) one_edge three_ends) }
+    ensures kept { IsKept (Edge 0 0 2 0 ∷ End 0 0 1 ∷ End 0 1 4 ∷ []) one_edge two_ends 1 }
+    ensures counted_twice { ¬ (IsKept (Edge 0 0 2 0 ∷ End 0 0 1 ∷ End 0 1 4 ∷ []) one_edge two_ends 2) }
 {}
 
 /// A descriptor waits until its own claim is there.
