@@ -1,5 +1,7 @@
 pub mod Beginning
+pub mod CalledEdges
 pub mod Calls
+pub mod Consistency
 pub mod Counts
 pub mod FactLemmas
 pub mod Furthest

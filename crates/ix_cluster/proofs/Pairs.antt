@@ -13,19 +13,8 @@ use Rattle.ix_cluster.specs.Room.{tally}
 use Rattle.ix_cluster.specs.Steps.{edges_in, ends_in}
 use Rattle.ix_cluster.proofs.Counts.{either}
 use Rattle.ix_cluster.proofs.Handing.{ends-met, edges-met, tally-none, called-none, desc-none, part-none, claim-none}
-use Rattle.ix_cluster.proofs.ListLemmas.{same_cluster-true}
+use Rattle.ix_cluster.proofs.ListLemmas.{same_cluster-true, same_cluster-refl, same_cluster-symm}
 use Rattle.ix_cluster.proofs.Members.{first_has, rest_has, either_has, none_has}
-
-pub same_cluster-refl : (a : Cluster) → same_cluster a a ≡ true
-same_cluster-refl a = search rules
-
-same_cluster-symm : (a b : Cluster) → same_cluster a b ≡ same_cluster b a
-same_cluster-symm a b = by (either (same_cluster a b)) (either (same_cluster b a))
-  where
-    by : (same_cluster a b ≡ true) ⊎ (same_cluster a b ≡ false) → (same_cluster b a ≡ true) ⊎ (same_cluster b a ≡ false) → same_cluster a b ≡ same_cluster b a
-    by (inl e) other = subst (λ z. same_cluster a z ≡ same_cluster z a) (same_cluster-true a b e) refl
-    by (inr e) (inl o) = subst (λ z. same_cluster z b ≡ same_cluster b z) (same_cluster-true b a o) refl
-    by (inr e) (inr o) = e ∙ sym o
 
 -- two facts meet, whichever comes first
 meets-symm : (f g : Fact) → meets f g ≡ meets g f

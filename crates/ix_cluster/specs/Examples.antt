@@ -36,3 +36,7 @@ no_ends = hash_map [] tt 0
 -- a list of none at each
 abbrev pub empty_lists : IndexMap Cluster (Vec ℕ (Unit {0})) (Unit {0})
 empty_lists = lists_of (vec_of [] (lit≤ tt)) (vec_of [] (lit≤ tt))
+
+-- at the first as many ends as there is room for, and none at the second
+abbrev pub full_ends : IndexMap Cluster (Vec ℕ (Unit {0})) (Unit {0})
+full_ends = lists_of (vec_of (1 ∷ 2 ∷ 3 ∷ 4 ∷ []) (lit≤ tt)) (vec_of [] (lit≤ tt))

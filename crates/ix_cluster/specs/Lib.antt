@@ -1,5 +1,6 @@
 pub mod Banks
 pub mod ClosedFacts
+pub mod Consistent
 pub mod Examples
 pub mod Facts
 pub mod Firsts

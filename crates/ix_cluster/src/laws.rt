@@ -7,7 +7,8 @@ ghost use Rattle.ix_cluster.specs.declared.answers.Claimed.TheVariants as claime
 ghost use Rattle.ix_cluster.specs.declared.fact.Fact.TheVariants.{Called, Edge, End, Desc, Part, Claim};
 ghost use Rattle.ix_cluster.specs.Banks.{opening, opening_bank, facts_of, later_of, is_descriptor, sub_of};
 ghost use Rattle.ix_cluster.specs.ClosedFacts.{IsInClosed};
-ghost use Rattle.ix_cluster.specs.Examples.{two_ends, three_ends, one_edge, no_ends, empty_lists};
+ghost use Rattle.ix_cluster.specs.Consistent.{EdgesAreCalled, IsConsistent};
+ghost use Rattle.ix_cluster.specs.Examples.{two_ends, three_ends, one_edge, no_ends, empty_lists, full_ends};
 ghost use Rattle.ix_cluster.specs.Facts.{has, put, same_fact};
 ghost use Rattle.ix_cluster.specs.Firsts.{first_slot, firsts_of, is_at_end};
 ghost use Rattle.ix_cluster.specs.Furthest.{IsFurthest};
@@ -15,7 +16,7 @@ ghost use Rattle.ix_cluster.specs.Handed.{meets, pair_count, IsKept};
 ghost use Rattle.ix_cluster.specs.Homes.{home, home_of};
 ghost use Rattle.ix_cluster.specs.Laws.{AreClustersOf, edges_times_ends, PairsAreByCluster, IsLaterOf, LaterIsGreatest};
 ghost use Rattle.ix_cluster.specs.Listed.{AreListed};
-ghost use Rattle.ix_cluster.specs.Lists.{cluster, same_cluster, list_at, PushesAt, KeepsLists};
+ghost use Rattle.ix_cluster.specs.Lists.{cluster, same_cluster, list_at, PushesAt, KeepsLists, IsPlaceFor};
 ghost use Rattle.ix_cluster.specs.Room.{is_unclaimed, unclaimed_in, HasRoom};
 ghost use Rattle.ix_cluster.specs.Sound.{AreTrue, HasCompanions, IsSound, AreSound};
 ghost use Rattle.ix_cluster.specs.Steps.{empty_sub, claim_answer, after_claim, arrival_answer, after_arrival, edges_in, ends_in, end_answer, after_call, after_edge, edge_is_first, edge_answer};
@@ -125,6 +126,23 @@ pub fn lists_change_at_one_cluster()
     ensures nothing { ¬ (PushesAt two_ends (cluster 0 0) 2 two_ends) }
     ensures keeps { KeepsLists no_ends empty_lists }
     ensures changes { ¬ (KeepsLists two_ends three_ends) }
+{}
+
+/// A place for an item is that of the cluster's own list, with room.
+pub fn places_have_room()
+    ensures place { IsPlaceFor two_ends (cluster 0 1) 1 }
+    ensures other_list { ¬ (IsPlaceFor two_ends (cluster 0 1) 0) }
+    ensures behind { ¬ (IsPlaceFor two_ends (cluster 0 1) 2) }
+    ensures full { ¬ (IsPlaceFor full_ends (cluster 0 0) 0) }
+{}
+
+/// The cluster of an edge is called, in any bank.
+pub fn edges_call_their_clusters()
+    ensures called { EdgesAreCalled (Called 0 1 ∷ Edge 0 1 2 0 ∷ End 1 0 1 ∷ []) }
+    ensures not_called { ¬ (EdgesAreCalled (Called 0 0 ∷ Edge 0 1 2 0 ∷ [])) }
+    ensures consistent { IsConsistent (Called 0 0 ∷ Edge 0 0 2 0 ∷ End 0 0 1 ∷ End 0 1 4 ∷ []) one_edge two_ends 1 }
+    ensures without_call { ¬ (IsConsistent (Edge 0 0 2 0 ∷ End 0 0 1 ∷ End 0 1 4 ∷ []) one_edge two_ends 1) }
+    ensures miscounted { ¬ (IsConsistent (Called 0 0 ∷ Edge 0 0 2 0 ∷ End 0 0 1 ∷ End 0 1 4 ∷ []) one_edge two_ends 0) }
 {}
 
 /// A bank's lists are those of its log, and each pair of an edge and an end is counted once.
