@@ -8,6 +8,7 @@ pub mod Furthest
 pub mod Handing
 pub mod ListLemmas
 pub mod Listing
+pub mod Marks
 pub mod Members
 pub mod Pairs
 pub mod SmallBanks

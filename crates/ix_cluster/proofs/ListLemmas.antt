@@ -1,14 +1,14 @@
 -- lists by cluster, through a write of one list
-use Rattle.std.proofs.Common.{◌≡◌, ◌<◌, ℕ, zero, suc, Bool, true, false, cond, List, [], ◌∷◌, ◌++◌, length, map, slice_get, slice_index_or, position, Option, Some, None, is_some, true≢false, refl, sym, ap, ◌∙◌, rules, arith, subst, ◌⊎◌, inl, inr, vec_len, vec_capacity}
+use Rattle.std.proofs.Common.{◌≡◌, ◌<◌, ℕ, zero, suc, Bool, true, false, cond, List, [], ◌∷◌, ◌++◌, length, slice_get, slice_index_or, position, Option, Some, None, is_some, true≢false, refl, sym, ap, ◌∙◌, rules, arith, subst, ◌⊎◌, inl, inr, vec_len, vec_capacity}
 use Rattle.std.specs.Cmp.{IsEquivalence}
 use Rattle.std.specs.declared.vec.Vec.{Vec}
-use Rattle.std.specs.Map.{keys_of, lookup}
+use Rattle.std.specs.Map.{keys_of}
 use Rattle.std.specs.Option.{option_map_or, option_map}
 use Rattle.std.proofs.lemmas.List.{length-map}
 use Rattle.std.proofs.lemmas.List.Quantifiers.{position-Some}
 use Rattle.std.proofs.lemmas.Map.Entries.{lookup_from_place}
 use Rattle.std.proofs.lemmas.Option.{slice_get-map, slice_get-get_or, get_or_from_slice_get}
-use Rattle.indexmap.specs.IndexMap.{IndexMap, get, keys, IsUnique, insert_entry, set_value_at, with_value_at}
+use Rattle.indexmap.specs.IndexMap.{IndexMap, get, IsUnique, insert_entry, set_value_at, with_value_at}
 use Rattle.indexmap.proofs.CallerLemmas.{insert_entry-new, updates-with_value_at}
 use Rattle.ix_cluster.specs.declared.cluster.Cluster.{Cluster}
 use Rattle.ix_cluster.specs.Lists.{same_cluster, list_at, PushesAt, KeepsLists, IsPlaceFor}

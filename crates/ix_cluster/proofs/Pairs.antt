@@ -1,5 +1,5 @@
 -- The pairs of a log, cluster by cluster.
-use Rattle.std.proofs.Common.{◌≡◌, ℕ, suc, ◌+◌, ◌*◌, Bool, true, false, cond, List, [], ◌∷◌, length, Contains, Some, None, refl, sym, ap, ◌∙◌, arith, rules, subst, true≢false, ◌⊎◌, inl, inr}
+use Rattle.std.proofs.Common.{◌≡◌, ℕ, suc, ◌+◌, ◌*◌, Bool, true, false, cond, List, [], ◌∷◌, length, Contains, Some, None, refl, sym, ap, ◌∙◌, arith, subst, true≢false, ◌⊎◌, inl, inr}
 use Rattle.std.specs.List.{cons_option, sum_by, IsDistinct, AllByRecursion}
 use Rattle.std.proofs.lemmas.List.Sums.{sum_by-cons}
 use Rattle.std.proofs.lemmas.Map.Keys.{IsDistinct-head, IsDistinct-tail}
@@ -7,7 +7,7 @@ use Rattle.ix_cluster.specs.declared.cluster.Cluster.{Cluster}
 use Rattle.ix_cluster.specs.declared.fact.Fact.{Fact}
 use Rattle.ix_cluster.specs.declared.fact.Fact.TheVariants.{Called, Edge, End, Desc, Part, Claim}
 use Rattle.ix_cluster.specs.Handed.{meets, pair_count}
-use Rattle.ix_cluster.specs.Laws.{AreClustersOf, edges_times_ends, PairsAreByCluster}
+use Rattle.ix_cluster.specs.Laws.{edges_times_ends, PairsAreByCluster}
 use Rattle.ix_cluster.specs.Lists.{cluster, same_cluster}
 use Rattle.ix_cluster.specs.Room.{tally}
 use Rattle.ix_cluster.specs.Steps.{edges_in, ends_in}

@@ -10,6 +10,7 @@ pub mod Homes
 pub mod Laws
 pub mod Listed
 pub mod Lists
+pub mod LogPlaces
 pub mod Room
 pub mod Seen
 pub mod Sound

@@ -1,5 +1,5 @@
 //! A bank of clusters.
-ghost use Rattle.std.specs.Prelude.{◌≡◌, ℕ, ◌<◌, ◌≤◌, ◌+◌, ◌*◌, ◌^◌, not, length, slice_get, Option, Some, [], OnOk, IfOk, OnErr};
+ghost use Rattle.std.specs.Prelude.{◌≡◌, ℕ, ◌<◌, ◌≤◌, ◌+◌, ◌*◌, ◌^◌, not, length, filter, slice_get, Option, Some, [], OnOk, IfOk, OnErr};
 ghost use Rattle.std.specs.List.{IsDistinct};
 ghost use Rattle.ix_model.specs.declared.grammar.Mark.{Mark};
 ghost use Rattle.ix_model.specs.declared.rules.Sym.TheVariants as sym;
@@ -12,6 +12,7 @@ ghost use Rattle.ix_cluster.specs.Firsts.{firsts_of};
 ghost use Rattle.ix_cluster.specs.ClosedFacts.{IsInClosed};
 ghost use Rattle.ix_cluster.specs.Homes.{home, home_of};
 ghost use Rattle.ix_cluster.specs.Lists.{cluster};
+ghost use Rattle.ix_cluster.specs.LogPlaces.{is_no_claim};
 ghost use Rattle.ix_cluster.specs.Sound.{IsSound};
 ghost use Rattle.ix_cluster.specs.Room.{unclaimed_in};
 ghost use Rattle.ix_cluster.specs.Steps.{after_call, after_first, after_firsts, claim_answer, after_claim, arrival_answer, after_arrival, end_answer, edges_in, ends_in, edge_is_first, edge_answer, after_edge};
@@ -160,11 +161,11 @@ impl Bank {
         self.log.at(n)
     }
 
-    // The facts in the order in which they came.
-    pub(crate) fn facts(&self) -> &[Fact]
-        ensures { result.now ≡ self.now.log }
+    // The facts but the claims, in the order in which they came.
+    pub(crate) fn facts_but_claims(&self) -> &[Fact]
+        ensures { result.now ≡ filter is_no_claim self.now.log }
     {
-        self.log.facts()
+        self.log.facts_but_claims()
     }
 
     /// How many pairs of an edge and an end the answers have handed out.
@@ -178,7 +179,7 @@ impl Bank {
     pub fn is_claimed(&self, slot: u32, left: u32, pos: u32) -> bool
         ensures { result ≡ has self.now.log (fact.Claim slot left pos) }
     {
-        self.log.holds(Fact::Claim { slot, left, pos })
+        self.log.is_claimed(slot, left, pos)
     }
 
     /// How many edges the cluster has, 0 where it is not there.

@@ -59,7 +59,7 @@ impl Banks {
     {
         let mut furthest = 0;
         for bank in &self.banks {
-            furthest = later(furthest, bank.facts());
+            furthest = later(furthest, bank.facts_but_claims());
         }
         furthest
     }
@@ -73,7 +73,7 @@ impl Banks {
         for bank in &self.banks {
             // Each bank has fewer facts than any machine has memory for.
             let _ = bank.fact_count();
-            count += descriptor_count(bank.facts());
+            count += descriptor_count(bank.facts_but_claims());
         }
         count
     }
@@ -86,7 +86,7 @@ impl Banks {
     {
         let mut subs = Vec::new(alloc);
         for bank in &self.banks {
-            add_subs(&mut subs, bank.facts())?;
+            add_subs(&mut subs, bank.facts_but_claims())?;
         }
         Ok(subs)
     }

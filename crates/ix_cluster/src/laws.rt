@@ -8,6 +8,7 @@ ghost use Rattle.ix_cluster.specs.declared.fact.Fact.TheVariants.{Called, Edge, 
 ghost use Rattle.ix_cluster.specs.Banks.{opening, opening_bank, facts_of, later_of, is_descriptor, sub_of};
 ghost use Rattle.ix_cluster.specs.ClosedFacts.{IsInClosed};
 ghost use Rattle.ix_cluster.specs.Consistent.{EdgesAreCalled, IsConsistent};
+ghost use Rattle.ix_cluster.specs.declared.log.Place.TheVariants.{Came, Claimed};
 ghost use Rattle.ix_cluster.specs.Examples.{two_ends, three_ends, one_edge, no_ends, empty_lists, full_ends};
 ghost use Rattle.ix_cluster.specs.Facts.{has, put, same_fact};
 ghost use Rattle.ix_cluster.specs.Firsts.{first_slot, firsts_of, is_at_end};
@@ -17,6 +18,7 @@ ghost use Rattle.ix_cluster.specs.Homes.{home, home_of};
 ghost use Rattle.ix_cluster.specs.Laws.{AreClustersOf, edges_times_ends, PairsAreByCluster, IsLaterOf, LaterIsGreatest};
 ghost use Rattle.ix_cluster.specs.Listed.{AreListed};
 ghost use Rattle.ix_cluster.specs.Lists.{cluster, same_cluster, list_at, PushesAt, KeepsLists, IsPlaceFor};
+ghost use Rattle.ix_cluster.specs.LogPlaces.{is_no_claim, claim_of, number_of, fact_at, log_of, AreMarked, IsLog};
 ghost use Rattle.ix_cluster.specs.Room.{is_unclaimed, unclaimed_in, HasRoom};
 ghost use Rattle.ix_cluster.specs.Sound.{AreTrue, HasCompanions, IsSound, AreSound};
 ghost use Rattle.ix_cluster.specs.Steps.{empty_sub, claim_answer, after_claim, arrival_answer, after_arrival, edges_in, ends_in, end_answer, after_call, after_edge, edge_is_first, edge_answer};
@@ -161,6 +163,27 @@ pub fn descriptor_waits_for_its_claim()
     ensures count { unclaimed_in (Desc 0 0 0 ∷ Desc 2 0 0 ∷ Claim 2 0 0 ∷ []) ≡ 1 }
     ensures room { HasRoom (Desc 0 0 0 ∷ []) 3 1 2 }
     ensures no_room { ¬ (HasRoom (Desc 0 0 0 ∷ []) 2 1 2) }
+{}
+
+/// A claim stands at a place of its own in the log, and has no number of its own.
+pub fn claims_are_marks()
+    ensures plain { is_no_claim (Desc 0 0 0) ≡ true }
+    ensures claim { is_no_claim (Claim 0 0 0) ≡ false }
+    ensures of { claim_of (Desc 1 0 2) ≡ Claim 1 0 2 }
+    ensures other { claim_of (Called 0 0) ≡ Called 0 0 }
+    ensures number { number_of (Claimed 3) ≡ 3 }
+    ensures came { fact_at (Called 0 0 ∷ Desc 0 0 0 ∷ []) (Came 1) ≡ Desc 0 0 0 }
+    ensures claimed { fact_at (Called 0 0 ∷ Desc 0 0 0 ∷ []) (Claimed 1) ≡ Claim 0 0 0 }
+    ensures log { log_of (Called 0 0 ∷ Desc 0 0 0 ∷ End 0 0 1 ∷ []) (Came 0 ∷ Came 1 ∷ Claimed 1 ∷ Came 2 ∷ []) ≡ Called 0 0 ∷ Desc 0 0 0 ∷ Claim 0 0 0 ∷ End 0 0 1 ∷ [] }
+{}
+
+/// A log's marks tell which descriptors are claimed, its facts are numbered as they came, and each has one place.
+pub fn marks_tell_the_claims()
+    ensures marked { AreMarked (Called 0 0 ∷ Desc 0 0 0 ∷ []) (false ∷ true ∷ []) (Came 0 ∷ Came 1 ∷ Claimed 1 ∷ []) }
+    ensures not_marked { ¬ (AreMarked (Called 0 0 ∷ Desc 0 0 0 ∷ []) (false ∷ false ∷ []) (Came 0 ∷ Came 1 ∷ Claimed 1 ∷ [])) }
+    ensures other_order { ¬ (AreMarked (Called 0 0 ∷ Desc 0 0 0 ∷ []) (false ∷ false ∷ []) (Came 1 ∷ Came 0 ∷ [])) }
+    ensures fields { IsLog (Desc 0 0 0 ∷ []) (false ∷ []) (Came 0 ∷ []) 2 2 3 1 2 }
+    ensures no_room { ¬ (IsLog (Desc 0 0 0 ∷ []) (false ∷ []) (Came 0 ∷ []) 2 2 2 1 2) }
 {}
 
 /// Of two banks the first begins with the call of the first rule, and the second is empty.

@@ -1,8 +1,7 @@
-use Rattle.std.proofs.Common.{[], ◌∷◌, ℕ, vec_len, vec_capacity, arith, ap, subst, sym, lit<, refl}
+use Rattle.std.proofs.Common.{ℕ, vec_len, vec_capacity, arith, ap, lit<, refl}
 use Rattle.std.specs.declared.vec.Vec.{Vec}
 use Rattle.std.specs.Option.{option_map_or}
 use Rattle.ix_cluster.specs.declared.cluster.Cluster.{Cluster}
-use Rattle.ix_cluster.specs.Lists.{cluster}
 use Rattle.ix_cluster.proofs.laws.places_have_room.Goals as goal
 
 -- the rule's position and the room of what stands at a place

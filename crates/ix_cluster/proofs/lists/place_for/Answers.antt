@@ -1,4 +1,4 @@
-use Rattle.std.proofs.Common.{◌≡◌, ◌∙◌, None, sym, ap, subst, arith, length}
+use Rattle.std.proofs.Common.{◌≡◌, ◌∙◌, None, sym, subst, arith}
 use Rattle.indexmap.specs.IndexMap.{get}
 use Rattle.ix_cluster.specs.Lists.{same_cluster, IsPlaceFor}
 use Rattle.ix_cluster.proofs.ListLemmas.{same_cluster-true, none_there, place-found, KeepsLists-from_write, list_at-none, IsPlaceFor-insert}

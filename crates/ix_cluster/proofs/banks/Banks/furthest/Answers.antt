@@ -1,8 +1,15 @@
-use Rattle.std.proofs.Common.{◌≡◌, fold, arith}
+use Rattle.std.proofs.Common.{◌≡◌, ◌∙◌, fold, ap, arith}
 use Rattle.std.proofs.lemmas.Grind.{common_steps}
 use Rattle.ix_cluster.specs.Banks.{facts_of, later_of}
 use Rattle.ix_cluster.proofs.Furthest.{is_furthest}
+use Rattle.ix_cluster.proofs.Marks.{later_but_claims}
 use Rattle.ix_cluster.proofs.banks.Banks.furthest.Goals as goal
+
+pub loop-bank-preserved : goal.loop-bank-preserved
+loop-bank-preserved c =
+    let later : c.later-furthest.result ≡ fold later_of c.loop-bank.furthest c.bank-item.result.log =
+    c.later-furthest.ensures ∙ ap (fold later_of c.loop-bank.furthest) c.facts_but_claims.ensures ∙ later_but_claims c.bank-item.result.log c.loop-bank.furthest in
+    grind (arith, common_steps, later)
 
 pub returns-clause-greatest : goal.returns-clause-greatest
 returns-clause-greatest c =
