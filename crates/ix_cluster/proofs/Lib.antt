@@ -1,8 +1,10 @@
 pub mod Beginning
+pub mod ButClaims
 pub mod CalledEdges
 pub mod Calls
 pub mod Consistency
 pub mod Counts
+pub mod Elements
 pub mod FactLemmas
 pub mod Furthest
 pub mod Handing

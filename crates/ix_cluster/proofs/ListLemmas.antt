@@ -1,15 +1,13 @@
 -- lists by cluster, through a write of one list
-use Rattle.std.proofs.Common.{◌≡◌, ◌<◌, ℕ, zero, suc, Bool, true, false, cond, List, [], ◌∷◌, ◌++◌, length, slice_get, slice_index_or, position, Option, Some, None, is_some, true≢false, refl, sym, ap, ◌∙◌, rules, arith, subst, ◌⊎◌, inl, inr, vec_len, vec_capacity}
+use Rattle.std.proofs.Common.{◌≡◌, ◌<◌, ◌+◌, ℕ, suc, true, false, not, cond, List, [], ◌∷◌, ◌++◌, slice_get, unwrap_or, Option, Some, None, refl, sym, ap, ap₂, ◌∙◌, rules, arith, subst, ◌⊎◌, inl, inr, vec_len, vec_capacity}
 use Rattle.std.specs.Cmp.{IsEquivalence}
+use Rattle.std.specs.List.{position_or_len}
 use Rattle.std.specs.declared.vec.Vec.{Vec}
-use Rattle.std.specs.Map.{keys_of}
-use Rattle.std.specs.Option.{option_map_or, option_map}
-use Rattle.std.proofs.lemmas.List.{length-map}
-use Rattle.std.proofs.lemmas.List.Quantifiers.{position-Some}
+use Rattle.std.specs.Map.{keys_of, lookup}
+use Rattle.std.specs.Option.{option_map_or}
 use Rattle.std.proofs.lemmas.Map.Entries.{lookup_from_place}
-use Rattle.std.proofs.lemmas.Option.{slice_get-map, slice_get-get_or, get_or_from_slice_get}
-use Rattle.indexmap.specs.IndexMap.{IndexMap, get, IsUnique, insert_entry, set_value_at, with_value_at}
-use Rattle.indexmap.proofs.CallerLemmas.{insert_entry-new, updates-with_value_at}
+use Rattle.indexmap.specs.IndexMap.{IndexMap, get, insert_index, IsUnique, insert_entry, with_value_at}
+use Rattle.indexmap.proofs.CallerLemmas.{updates-with_value_at}
 use Rattle.ix_cluster.specs.declared.cluster.Cluster.{Cluster}
 use Rattle.ix_cluster.specs.Lists.{same_cluster, list_at, PushesAt, KeepsLists, IsPlaceFor}
 use Rattle.ix_cluster.proofs.Counts.{either}
@@ -57,28 +55,6 @@ module _ {T A S : Type 0} (m n : IndexMap Cluster (Vec T A) S) (c : Cluster) (w 
 
 -- ---- places
 
-module _ {K V : Type 0} where
-  -- the entry whose value is written keeps its key
-  place-written : (es : List (K × V)) (i : ℕ) (k : K) (v w : V) → slice_get es i ≡ Some (k, v) → slice_get (set_value_at es i w) i ≡ Some (k, w)
-  place-written [] i k v w h = absurd (cc h)
-  place-written (e ∷ es) zero k v w h = ap (λ o. option_map (λ (z : K × V). (z.0, w)) o) h
-  place-written (e ∷ es) (suc i) k v w h = place-written es i k v w h
-
-  -- the last entry stands behind the others
-  pub place-last : (es : List (K × V)) (e : K × V) → slice_get (es ++ e ∷ []) (length es) ≡ Some e
-  place-last [] e = refl
-  place-last (x ∷ es) e = place-last es e
-
-  -- the entry at the place of a key that passes
-  pub place-found : (test : K → Bool) (es : List (K × V)) (i : ℕ) → position test (keys_of es) ≡ Some i → (k : K) × (v : V) × (slice_get es i ≡ Some (k, v)) × (test k ≡ true)
-  place-found test [] i h = absurd (cc h)
-  place-found test (e ∷ es) i h =
-      let found = position-Some test (keys_of (e ∷ es)) i e.0 h in
-      let within : i < length (e ∷ es) = omega (arith, found.0, length-map (e ∷ es) (λ (z : K × V). z.0)) in
-      let here = slice_get-get_or (e ∷ es) i e within in
-      let key = get_or_from_slice_get (keys_of (e ∷ es)) i (slice_index_or (e ∷ es) i e).0 e.0 (slice_get-map (λ (z : K × V). z.0) (e ∷ es) i ∙ ap (λ o. option_map (λ (z : K × V). z.0) o) here) in
-      ((slice_index_or (e ∷ es) i e).0, (slice_index_or (e ∷ es) i e).1, here, sym (ap test key) ∙ found.1)
-
 module _ {T A S : Type 0} (m : IndexMap Cluster (Vec T A) S) (unique : IsUnique same_cluster m) (place : ℕ) (c : Cluster) (v : Vec T A) (at : slice_get m.entries place ≡ Some (c, v)) where
   pub list-here : v.items ≡ list_at m c
   list-here = sym (ap (λ o. option_map_or (λ (z : Vec T A). z.items) o []) (lookup_from_place same_cluster-equivalence m.entries place c v unique at))
@@ -86,30 +62,36 @@ module _ {T A S : Type 0} (m : IndexMap Cluster (Vec T A) S) (unique : IsUnique 
   writes : (w : Vec T A) (q : Cluster) → get same_cluster (with_value_at m place w) q ≡ cond (same_cluster c q) (Some w) (get same_cluster m q)
   writes w = (updates-with_value_at m place w same_cluster-equivalence unique c v at).0
 
-  -- a list that is written with the same elements
-  pub KeepsLists-at : (w : Vec T A) → w.items ≡ v.items → KeepsLists m (with_value_at m place w)
-  KeepsLists-at w same = KeepsLists-from_write m (with_value_at m place w) c w (writes w) (same ∙ list-here)
-
-  -- and with one more
+  -- the list at the place is written with one more element
   pub PushesAt-at : (w : Vec T A) (x : T) → w.items ≡ v.items ++ x ∷ [] → PushesAt m c x (with_value_at m place w)
   PushesAt-at w x same = PushesAt-from_write m (with_value_at m place w) c w (writes w) x (same ∙ ap (λ l. l ++ x ∷ []) list-here)
 
-  pub IsPlaceFor-at : (w : Vec T A) → vec_len w < vec_capacity w → IsPlaceFor (with_value_at m place w) c place
-  IsPlaceFor-at w room = record { list = w; at = place-written m.entries place c v w at; room = room }
+-- the key that is inserted stands where it says
+place-inserted : {V : Type 0} (es : List (Cluster × V)) (c : Cluster) (w : V) → slice_get (insert_entry same_cluster es c w) (position_or_len (same_cluster c) (keys_of es)) ≡ Some (c, w)
+place-inserted [] c w = refl
+place-inserted (e ∷ es) c w = by (either (same_cluster c e.0)) (place-inserted es c w)
+  where
+    by : (same_cluster c e.0 ≡ true) ⊎ (same_cluster c e.0 ≡ false) → slice_get (insert_entry same_cluster es c w) (position_or_len (same_cluster c) (keys_of es)) ≡ Some (c, w) → slice_get (insert_entry same_cluster (e ∷ es) c w) (position_or_len (same_cluster c) (keys_of (e ∷ es))) ≡ Some (c, w)
+    by (inl h) rest = ap (λ b. slice_get (cond b ((e.0, w) ∷ es) (e ∷ insert_entry same_cluster es c w)) (cond (not b) (1 + position_or_len (same_cluster c) (keys_of es)) 0)) h ∙ ap (λ z. Some (z, w)) (sym (same_cluster-true c e.0 h))
+    by (inr h) rest =
+        let one : 1 + position_or_len (same_cluster c) (keys_of es) ≡ suc (position_or_len (same_cluster c) (keys_of es)) = omega arith in
+        ap (λ b. slice_get (cond b ((e.0, w) ∷ es) (e ∷ insert_entry same_cluster es c w)) (cond (not b) (1 + position_or_len (same_cluster c) (keys_of es)) 0)) h ∙ ap (slice_get (e ∷ insert_entry same_cluster es c w)) one ∙ rest
 
-pub none_there : {X : Type 0} (o : Option X) → is_some o ≡ false → o ≡ None
-none_there None h = refl
-none_there (Some x) h = absurd (true≢false h)
+module _ {T A S : Type 0} (m n : IndexMap Cluster (Vec T A) S) (c : Cluster) (w : Vec T A) where
+  -- the list of the cluster's entry, where it has one, and else the empty one that is put in
+  pub entry-list : (default : Vec T A) (now : Vec T A) → default.items ≡ [] → now ≡ unwrap_or (get same_cluster m c) default → w.items ≡ now.items → w.items ≡ list_at m c
+  entry-list default now empty is same = same ∙ ap (λ (z : Vec T A). z.items) is ∙ by (get same_cluster m c)
+    where
+      by : (o : Option (Vec T A)) → (unwrap_or o default).items ≡ option_map_or (λ z. z.items) o []
+      by None = empty
+      by (Some v) = refl
 
-module _ {T A S : Type 0} (m n : IndexMap Cluster (Vec T A) S) (c : Cluster) (w : Vec T A) (none : get same_cluster m c ≡ None) where
-  -- a cluster that the map lacks has no list
-  pub list_at-none : list_at m c ≡ []
-  list_at-none = ap (λ o. option_map_or (λ (z : Vec T A). z.items) o []) none
+  pub IsPlaceFor-entry : (place : ℕ) → n.entries ≡ insert_entry same_cluster m.entries c w → place ≡ insert_index same_cluster m c → vec_len w < vec_capacity w → IsPlaceFor n c place
+  IsPlaceFor-entry place entries at room = record { list = w; at = ap₂ slice_get entries at ∙ place-inserted m.entries c w; room = room }
 
-  -- its list, once it is inserted, stands last
-  pub IsPlaceFor-insert : n.entries ≡ insert_entry same_cluster m.entries c w → vec_len w < vec_capacity w → IsPlaceFor n c (length m.entries)
-  IsPlaceFor-insert entries room =
-      record { list = w; at = ap (λ (es : List (Cluster × Vec T A)). slice_get es (length m.entries)) (entries ∙ insert_entry-new same_cluster m c w none) ∙ place-last m.entries (c, w); room = room }
+-- the same of the entries that are left where a list was lent
+pub KeepsLists-entries : {T A S : Type 0} (m n : IndexMap Cluster (Vec T A) S) (left : List (Cluster × Vec T A)) → left ≡ n.entries → KeepsLists m n → (d : Cluster) → option_map_or (λ v. v.items) (lookup (same_cluster d) left) [] ≡ list_at m d
+KeepsLists-entries m n left e keeps d = ap (λ es. option_map_or (λ v. v.items) (lookup (same_cluster d) es) []) e ∙ keeps d
 
 -- a push after a step that keeps the lists is a push
 pub PushesAt-after_keeps : {T A S : Type 0} (m n p : IndexMap Cluster (Vec T A) S) (c : Cluster) (x : T) → KeepsLists m n → PushesAt n c x p → PushesAt m c x p

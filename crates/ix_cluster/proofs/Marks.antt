@@ -1,101 +1,29 @@
 -- The log as numbered facts with marks for claims, as facts are recorded and claimed.
-use Rattle.std.proofs.Common.{◌≡◌, ◌≢◌, ℕ, zero, suc, ◌+◌, ◌-◌, ◌≤◌, ◌<◌, ◌^◌, Bool, true, false, not, cond, ◌||◌, List, [], ◌∷◌, ◌++◌, length, length-append, max, filter, Some, Contains, slice_get, slice_set, slice_index_or, position, refl, sym, ap, ap₂, ◌∙◌, subst, arith, true≢false, ◌⊎◌, inl, inr}
-use Rattle.std.specs.List.{IsDistinct, AllByRecursion, fold, filter_map, count_by}
+use Rattle.std.proofs.Common.{◌≡◌, ℕ, zero, suc, ◌+◌, ◌-◌, ◌≤◌, ◌<◌, ◌^◌, Bool, true, false, not, cond, ◌||◌, List, [], ◌∷◌, ◌++◌, length, length-append, filter, Some, Contains, slice_get, slice_set, slice_index_or, position, refl, sym, ap, ap₂, ◌∙◌, subst, arith, true≢false, ◌⊎◌, inl, inr}
+use Rattle.std.specs.List.{IsDistinct}
 use Rattle.std.specs.Option.{option_map}
 use Rattle.std.proofs.lemmas.List.{get_or_append_left, append-nil, length-set, length-map}
 use Rattle.std.proofs.lemmas.List.Quantifiers.{position-Some}
-use Rattle.std.proofs.lemmas.List.Sums.{sum_by-cons}
 use Rattle.std.proofs.lemmas.List.Elements.{filter-append, Contains-push_cases}
-use Rattle.std.proofs.lemmas.Map.Keys.{IsDistinct-head, IsDistinct-tail, IsDistinct-cons, IsDistinct-push}
+use Rattle.std.proofs.lemmas.Map.Keys.{IsDistinct-head, IsDistinct-tail, IsDistinct-push}
 use Rattle.std.proofs.lemmas.Bool.{cases_eq}
 use Rattle.std.proofs.lemmas.Option.{get_or_from_slice_get, slice_get_within, slice_get-map, slice_get_read, slice_get-get_or}
 use Rattle.std.proofs.Math.Seq.{get_or-append_seam}
 use Rattle.ix_cluster.specs.declared.fact.Fact.{Fact}
-use Rattle.ix_cluster.specs.declared.fact.Fact.TheVariants.{Called, Edge, End, Desc, Part, Claim}
+use Rattle.ix_cluster.specs.declared.fact.Fact.TheVariants.{Called, Desc, Claim}
 use Rattle.ix_cluster.specs.contracts.fact.FactPartialEq.TheImpl.{eq-value}
 use Rattle.ix_cluster.specs.declared.log.Place.{Place}
 use Rattle.ix_cluster.specs.declared.log.Place.TheVariants.{Came, Claimed}
 use Rattle.ix_cluster.specs.declared.answers.Claimed.TheVariants.{Mine, Taken, Unknown}
-use Rattle.ix_cluster.specs.Banks.{later_of, is_descriptor, sub_of}
 use Rattle.ix_cluster.specs.Facts.{has, put, same_fact}
 use Rattle.ix_cluster.specs.LogPlaces.{is_no_claim, claim_of, number_of, fact_at, log_of, AreMarked, IsLog}
 use Rattle.ix_cluster.specs.Room.{is_unclaimed, unclaimed_in, HasRoom}
 use Rattle.ix_cluster.specs.Steps.{claim_answer, after_claim}
+use Rattle.ix_cluster.proofs.ButClaims.{has-but_claims, once-filter}
 use Rattle.ix_cluster.proofs.Counts.{either, has-append, has-push_new, has-push_old, put-old, put-new, length-put, unclaimed-put_other, unclaimed-some, unclaimed-claim, HasRoom-put}
+use Rattle.ix_cluster.proofs.Elements.{get-left, get-last, get-push, get-set_same, get-set_other, get-all}
 use Rattle.ix_cluster.proofs.FactLemmas.{eq-same_fact, same_fact-true, same_fact-refl}
 use Rattle.ix_cluster.proofs.Members.{first_has, rest_has, none_has, has-Contains, same_fact-equivalence}
-
--- ---- a list without its claims
-
-no_claim-apart : (f g : Fact) → is_no_claim f ≡ true → is_no_claim g ≡ false → same_fact f g ≡ false
-no_claim-apart (Called r k) (Claim s l p) hf hg = refl
-no_claim-apart (Edge r k s' l') (Claim s l p) hf hg = refl
-no_claim-apart (End r k e) (Claim s l p) hf hg = refl
-no_claim-apart (Desc s' l' p') (Claim s l p) hf hg = refl
-no_claim-apart (Part sub) (Claim s l p) hf hg = refl
-no_claim-apart (Claim s' l' p') g hf hg = absurd (true≢false (sym hf))
-no_claim-apart f g hf hg = absurd (true≢false hg)
-
-pub has-but_claims : (log : List Fact) (f : Fact) → is_no_claim f ≡ true → has (filter is_no_claim log) f ≡ has log f
-has-but_claims [] f h = refl
-has-but_claims (g ∷ log) f h = by (either (is_no_claim g)) (has-but_claims log f h)
-  where
-    by : (is_no_claim g ≡ true) ⊎ (is_no_claim g ≡ false) → has (filter is_no_claim log) f ≡ has log f → has (filter is_no_claim (g ∷ log)) f ≡ has (g ∷ log) f
-    by (inl e) rest = ap (λ b. has (cond b (g ∷ filter is_no_claim log) (filter is_no_claim log)) f) e ∙ ap (λ b. same_fact f g || b) rest
-    by (inr e) rest = ap (λ b. has (cond b (g ∷ filter is_no_claim log) (filter is_no_claim log)) f) e ∙ rest ∙ sym (ap (λ b. b || has log f) (no_claim-apart f g h e))
-
-all-filter : (P : Fact → Type 0) (p : Fact → Bool) (xs : List Fact) → AllByRecursion P xs → AllByRecursion P (filter p xs)
-all-filter P p [] all = all
-all-filter P p (x ∷ xs) all = by (p x) (all-filter P p xs all.1)
-  where
-    by : (b : Bool) → AllByRecursion P (filter p xs) → AllByRecursion P (cond b (x ∷ filter p xs) (filter p xs))
-    by true rest = (all.0, rest)
-    by false rest = rest
-
-once-filter : (p : Fact → Bool) (xs : List Fact) → IsDistinct same_fact xs → IsDistinct same_fact (filter p xs)
-once-filter p [] once = once
-once-filter p (x ∷ xs) once = by (p x) (once-filter p xs (IsDistinct-tail same_fact x xs once))
-  where
-    by : (b : Bool) → IsDistinct same_fact (filter p xs) → IsDistinct same_fact (cond b (x ∷ filter p xs) (filter p xs))
-    by true rest = IsDistinct-cons same_fact x (filter p xs) (all-filter (λ y. same_fact x y ≡ false) p xs (IsDistinct-head same_fact x xs once)) rest
-    by false rest = rest
-
--- ---- elements by place
-
-module _ {X : Type 0} where
-  get-left : (xs ys : List X) (i : ℕ) (x : X) → slice_get xs i ≡ Some x → slice_get (xs ++ ys) i ≡ Some x
-  get-left [] ys i x h = absurd (cc h)
-  get-left (y ∷ xs) ys zero x h = h
-  get-left (y ∷ xs) ys (suc i) x h = get-left xs ys i x h
-
-  get-last : (xs : List X) (x : X) → slice_get (xs ++ x ∷ []) (length xs) ≡ Some x
-  get-last [] x = refl
-  get-last (y ∷ xs) x = get-last xs x
-
-  -- an element of a longer list is one of the shorter, or the last
-  get-push : (xs : List X) (y : X) (i : ℕ) (x : X) → slice_get (xs ++ y ∷ []) i ≡ Some x → (slice_get xs i ≡ Some x) ⊎ ((i ≡ length xs) × (y ≡ x))
-  get-push [] y zero x h = inr (refl, cc h)
-  get-push [] y (suc i) x h = absurd (cc h)
-  get-push (z ∷ xs) y zero x h = inl h
-  get-push (z ∷ xs) y (suc i) x h = elim (get-push xs y i x h) [ inl o ↦ inl o | inr n ↦ inr (ap suc n.0, n.1) ]
-
-  get-set_same : (xs : List X) (i : ℕ) (x y : X) → slice_get xs i ≡ Some x → slice_get (slice_set xs i y) i ≡ Some y
-  get-set_same [] i x y h = absurd (cc h)
-  get-set_same (z ∷ xs) zero x y h = refl
-  get-set_same (z ∷ xs) (suc i) x y h = get-set_same xs i x y h
-
-  get-set_other : (xs : List X) (i j : ℕ) (y : X) → i ≢ j → slice_get (slice_set xs i y) j ≡ slice_get xs j
-  get-set_other [] i j y apart = refl
-  get-set_other (z ∷ xs) zero zero y apart = absurd (apart refl)
-  get-set_other (z ∷ xs) zero (suc j) y apart = refl
-  get-set_other (z ∷ xs) (suc i) zero y apart = refl
-  get-set_other (z ∷ xs) (suc i) (suc j) y apart = get-set_other xs i j y (λ e. apart (ap suc e))
-
-  -- what holds of all holds at each place
-  get-all : (P : X → Type 0) (xs : List X) (i : ℕ) (x : X) → AllByRecursion P xs → slice_get xs i ≡ Some x → P x
-  get-all P [] i x all h = absurd (cc h)
-  get-all P (y ∷ xs) zero x all h = let e : y ≡ x = (cc) in subst P e all.0
-  get-all P (y ∷ xs) (suc i) x all h = get-all P xs i x all.1 h
 
 -- a fact stands at one place of a list that has each once
 one_place : (facts : List Fact) (i j : ℕ) (f : Fact) → IsDistinct same_fact facts → slice_get facts i ≡ Some f → slice_get facts j ≡ Some f → i ≡ j
@@ -395,35 +323,3 @@ module _ (facts : List Fact) (marks : List Bool) (places : List Place) (fact_roo
 
   pub IsLog-bounded : length (log_of facts places) + unclaimed_in (log_of facts places) < 2 ^ 57
   IsLog-bounded = omega (arith, is.room.counted, is.room.small)
-
--- ---- what is told of a log does not rest on its claims
-
-pub later_but_claims : (log : List Fact) (pos : ℕ) → fold later_of pos (filter is_no_claim log) ≡ fold later_of pos log
-later_but_claims [] pos = refl
-later_but_claims (Called r k ∷ log) pos = later_but_claims log pos
-later_but_claims (Edge r k s l ∷ log) pos = later_but_claims log pos
-later_but_claims (End r k e ∷ log) pos = later_but_claims log pos
-later_but_claims (Desc s l p ∷ log) pos = later_but_claims log (max pos p)
-later_but_claims (Part sub ∷ log) pos = later_but_claims log pos
-later_but_claims (Claim s l p ∷ log) pos = later_but_claims log pos
-
-one-more : (f : Fact) (log : List Fact) → count_by is_descriptor (f ∷ log) ≡ cond (is_descriptor f) 1 0 + count_by is_descriptor log
-one-more f log = sum_by-cons (λ x. cond (is_descriptor x) 1 0) f log
-
-pub descriptors_but_claims : (log : List Fact) → count_by is_descriptor (filter is_no_claim log) ≡ count_by is_descriptor log
-descriptors_but_claims [] = refl
-descriptors_but_claims (Called r k ∷ log) = omega (arith, descriptors_but_claims log, one-more (Called r k) log, one-more (Called r k) (filter is_no_claim log))
-descriptors_but_claims (Edge r k s l ∷ log) = omega (arith, descriptors_but_claims log, one-more (Edge r k s l) log, one-more (Edge r k s l) (filter is_no_claim log))
-descriptors_but_claims (End r k e ∷ log) = omega (arith, descriptors_but_claims log, one-more (End r k e) log, one-more (End r k e) (filter is_no_claim log))
-descriptors_but_claims (Desc s l p ∷ log) = omega (arith, descriptors_but_claims log, one-more (Desc s l p) log, one-more (Desc s l p) (filter is_no_claim log))
-descriptors_but_claims (Part sub ∷ log) = omega (arith, descriptors_but_claims log, one-more (Part sub) log, one-more (Part sub) (filter is_no_claim log))
-descriptors_but_claims (Claim s l p ∷ log) = omega (arith, descriptors_but_claims log, one-more (Claim s l p) log)
-
-pub subs_but_claims : (log : List Fact) → filter_map sub_of (filter is_no_claim log) ≡ filter_map sub_of log
-subs_but_claims [] = refl
-subs_but_claims (Called r k ∷ log) = subs_but_claims log
-subs_but_claims (Edge r k s l ∷ log) = subs_but_claims log
-subs_but_claims (End r k e ∷ log) = subs_but_claims log
-subs_but_claims (Desc s l p ∷ log) = subs_but_claims log
-subs_but_claims (Part sub ∷ log) = ap (λ l. sub ∷ l) (subs_but_claims log)
-subs_but_claims (Claim s l p ∷ log) = subs_but_claims log

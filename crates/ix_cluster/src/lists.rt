@@ -19,7 +19,8 @@ pub(crate) fn list_of<'a, T>(map: &'a IndexMap<Cluster, Vec<T>>, cluster: Cluste
     }
 }
 
-// Makes room for one more in the list of the cluster, and answers where the list stands. No list changes.
+// Makes room for one more in the list of the cluster, and answers where the list stands. No list changes: a cluster that
+// the map lacks gets an empty one.
 pub(crate) fn place_for<T: Drop>(
     map: &mut IndexMap<Cluster, Vec<T>>,
     alloc: Global,
@@ -28,25 +29,11 @@ pub(crate) fn place_for<T: Drop>(
     ensures kept { KeepsLists map.old map.new }
     ensures place { IfOk result (IsPlaceFor map.new cluster) }
 {
-    if let Some(place) = map.get_index_of(&cluster) {
-        make_room(map, place)?;
-        return Ok(place);
-    }
-    let mut list = Vec::new(alloc);
+    let entry = map.entry(cluster)?;
+    let place = entry.index();
+    let list = entry.or_insert(Vec::new(alloc));
     list.reserve(1)?;
-    let place = map.len();
-    map.insert(cluster, list)?;
     Ok(place)
-}
-
-// Makes room for one more in the list at the place. No list changes.
-fn make_room<T>(map: &mut IndexMap<Cluster, Vec<T>>, place: usize) -> Result<(), AllocError>
-    requires { place < index_map_len map.old }
-    ensures kept { KeepsLists map.old map.new }
-    ensures place { OnOk result ((c : Cluster) (list : Vec T Global) → slice_get map.old.entries place ≡ Some (c, list) → IsPlaceFor map.new c place) }
-{
-    let (_, list) = map.pair_mut(place);
-    list.reserve(1)
 }
 
 // Adds an item to the list at the place.

@@ -4,7 +4,7 @@ use Rattle.std.proofs.lemmas.Grind.{common_steps}
 use Rattle.std.proofs.lemmas.List.Concat.{flat_map-append}
 use Rattle.std.proofs.lemmas.List.Elements.{filter_map-append}
 use Rattle.ix_cluster.specs.Banks.{sub_of}
-use Rattle.ix_cluster.proofs.Marks.{subs_but_claims}
+use Rattle.ix_cluster.proofs.ButClaims.{subs_but_claims}
 use Rattle.ix_cluster.proofs.banks.Banks.all_subs.Goals as goal
 
 pub loop-bank-preserved : goal.loop-bank-preserved

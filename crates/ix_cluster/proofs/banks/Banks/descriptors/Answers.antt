@@ -2,7 +2,7 @@ use Rattle.std.proofs.Common.{◌≡◌, ◌∙◌, ap, arith}
 use Rattle.std.specs.List.{count_by}
 use Rattle.std.proofs.lemmas.Grind.{common_steps}
 use Rattle.ix_cluster.specs.Banks.{is_descriptor}
-use Rattle.ix_cluster.proofs.Marks.{descriptors_but_claims}
+use Rattle.ix_cluster.proofs.ButClaims.{descriptors_but_claims}
 use Rattle.ix_cluster.proofs.banks.Banks.descriptors.Goals as goal
 
 pub loop-bank-preserved : goal.loop-bank-preserved

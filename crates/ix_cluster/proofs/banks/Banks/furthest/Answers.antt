@@ -2,7 +2,7 @@ use Rattle.std.proofs.Common.{◌≡◌, ◌∙◌, fold, ap, arith}
 use Rattle.std.proofs.lemmas.Grind.{common_steps}
 use Rattle.ix_cluster.specs.Banks.{facts_of, later_of}
 use Rattle.ix_cluster.proofs.Furthest.{is_furthest}
-use Rattle.ix_cluster.proofs.Marks.{later_but_claims}
+use Rattle.ix_cluster.proofs.ButClaims.{later_but_claims}
 use Rattle.ix_cluster.proofs.banks.Banks.furthest.Goals as goal
 
 pub loop-bank-preserved : goal.loop-bank-preserved
