@@ -137,14 +137,6 @@ impl Log {
         self.facts.as_slice()
     }
 
-    // Whether the log has the fact, which is no claim.
-    pub(crate) fn holds(&self, fact: Fact) -> bool
-        requires { is_no_claim fact ≡ true }
-        ensures { result ≡ has self.now.facts fact }
-    {
-        self.facts.contains(&fact)
-    }
-
     // Whether the descriptor is claimed.
     pub(crate) fn is_claimed(&self, slot: u32, left: u32, pos: u32) -> bool
         ensures { result ≡ has self.now.facts (fact.Claim slot left pos) }
