@@ -82,6 +82,22 @@ put-old log f h = ap (λ b. cond b log (log ++ f ∷ [])) h
 pub put-new : (log : List Fact) (f : Fact) → has log f ≡ false → put log f ≡ log ++ f ∷ []
 put-new log f h = ap (λ b. cond b log (log ++ f ∷ [])) h
 
+-- whether a log said that the fact was new tells whether it had it
+module _ (log now : List Fact) (f : Fact) (added : Bool) (same : now ≡ log) (said : added ≡ not (has now f)) where
+  pub was-there : added ≡ false → has log f ≡ true
+  was-there e = by (has log f) (sym e ∙ said ∙ ap (λ l. not (has l f)) same)
+    where
+      by : (b : Bool) → false ≡ not b → b ≡ true
+      by true h = refl
+      by false h = absurd (true≢false (sym h))
+
+  pub was-new : added ≡ true → has log f ≡ false
+  was-new e = by (has log f) (sym e ∙ said ∙ ap (λ l. not (has l f)) same)
+    where
+      by : (b : Bool) → true ≡ not b → b ≡ false
+      by true h = absurd (true≢false h)
+      by false h = refl
+
 pub length-put : (log : List Fact) (f : Fact) → length (put log f) ≤ length log + 1
 length-put log f = by (either (has log f))
   where

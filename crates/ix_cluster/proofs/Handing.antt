@@ -23,7 +23,7 @@ pub handed-push : (log : List Fact) (f : Fact) → pair_count (log ++ f ∷ []) 
 handed-push [] f = refl
 handed-push (g ∷ log) f = omega (arith, handed-push log f, tally-push (meets g) log f)
 
-tally-none : (p : Fact → Bool) → ((g : Fact) → p g ≡ false) → (xs : List Fact) → tally p xs ≡ 0
+pub tally-none : (p : Fact → Bool) → ((g : Fact) → p g ≡ false) → (xs : List Fact) → tally p xs ≡ 0
 tally-none p h [] = refl
 tally-none p h (x ∷ xs) = grind (arith, tally-none p h xs, h x)
 
@@ -84,7 +84,7 @@ pub handed-arrive : (log : List Fact) (sub : Sub) → pair_count (after_arrival 
 handed-arrive log sub = handed-put_other (put log (Part sub)) (Desc sub.slot sub.left sub.right) (desc-none _ _ _) ∙ handed-put_other log (Part sub) (part-none sub)
 
 -- an edge meets the ends of its cluster
-ends-met : (log : List Fact) (r k s l : ℕ) → tally (λ g. meets g (Edge r k s l)) log ≡ length (ends_in log (cluster r k))
+pub ends-met : (log : List Fact) (r k s l : ℕ) → tally (λ g. meets g (Edge r k s l)) log ≡ length (ends_in log (cluster r k))
 ends-met [] r k s l = refl
 ends-met (Called r' k' ∷ log) r k s l = omega (arith, ends-met log r k s l)
 ends-met (Edge r' k' s' l' ∷ log) r k s l = omega (arith, ends-met log r k s l)
@@ -97,7 +97,7 @@ ends-met (Desc s' l' p' ∷ log) r k s l = omega (arith, ends-met log r k s l)
 ends-met (Part sub ∷ log) r k s l = omega (arith, ends-met log r k s l)
 ends-met (Claim s' l' p' ∷ log) r k s l = omega (arith, ends-met log r k s l)
 
-edges-met : (log : List Fact) (r k e : ℕ) → tally (λ g. meets g (End r k e)) log ≡ length (edges_in log (cluster r k))
+pub edges-met : (log : List Fact) (r k e : ℕ) → tally (λ g. meets g (End r k e)) log ≡ length (edges_in log (cluster r k))
 edges-met [] r k e = refl
 edges-met (Called r' k' ∷ log) r k e = omega (arith, edges-met log r k e)
 edges-met (Edge r' k' s' l' ∷ log) r k e = by (same_cluster (cluster r' k') (cluster r k)) (edges-met log r k e)

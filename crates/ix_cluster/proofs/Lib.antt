@@ -1,10 +1,17 @@
 pub mod Beginning
+pub mod ButClaims
+pub mod CalledEdges
 pub mod Calls
+pub mod Consistency
 pub mod Counts
+pub mod Elements
 pub mod FactLemmas
+pub mod Furthest
 pub mod Handing
 pub mod ListLemmas
 pub mod Listing
+pub mod Marks
 pub mod Members
+pub mod Pairs
 pub mod SmallBanks
 pub mod Soundness

@@ -23,6 +23,10 @@ module _ {X : Type 0} where
   pub either_has : (y : X) (ys : List X) (x : X) → Contains (y ∷ ys) x → (y ≡ x) ⊎ Contains ys x
   either_has y ys x h = elim (Contains-append_cases (y ∷ []) ys x h) [ inl o ↦ inl (one_has y x o) | inr n ↦ inr n ]
 
+  -- what holds of the first and of all behind it holds of all
+  pub each_has : (P : X → Type 0) (y : X) (ys : List X) → P y → ((x : X) → Contains ys x → P x) → (x : X) → Contains (y ∷ ys) x → P x
+  each_has P y ys here rest x h = elim (either_has y ys x h) [ inl e ↦ subst P e here | inr n ↦ rest x n ]
+
   pub none_has : (x : X) → Contains [] x → ⊥
   none_has x h = omega (arith, h.1)
 

@@ -1,11 +1,16 @@
 pub mod Banks
 pub mod ClosedFacts
+pub mod Consistent
+pub mod Examples
 pub mod Facts
 pub mod Firsts
+pub mod Furthest
 pub mod Handed
 pub mod Homes
+pub mod Laws
 pub mod Listed
 pub mod Lists
+pub mod LogPlaces
 pub mod Room
 pub mod Seen
 pub mod Sound

@@ -1,5 +1,5 @@
 -- Lists that a map keeps by cluster. It is this project's own.
-use Rattle.std.specs.Prelude.{ℕ, ◌≡◌, Bool, ◌&&◌, ◌==◌, List, [], ◌∷◌, ◌++◌, if◌then◌else◌}
+use Rattle.std.specs.Prelude.{ℕ, ◌≡◌, ◌<◌, Bool, ◌&&◌, ◌==◌, List, [], ◌∷◌, ◌++◌, if◌then◌else◌, Some, slice_get, vec_len, vec_capacity}
 use Rattle.std.specs.declared.vec.Vec.{Vec}
 use Rattle.std.specs.Option.{option_map_or}
 use Rattle.indexmap.specs.IndexMap.{IndexMap, get}
@@ -25,3 +25,9 @@ module _ {T A S : Type 0} where
   -- each list stays
   abbrev pub KeepsLists : IndexMap Cluster (Vec T A) S → IndexMap Cluster (Vec T A) S → Type 0
   KeepsLists old new = (d : Cluster) → list_at new d ≡ list_at old d
+
+  -- the list at the place is the cluster's, and has room for one more
+  pub record IsPlaceFor (m : IndexMap Cluster (Vec T A) S) (c : Cluster) (place : ℕ) : Type 0 where
+    pub list : Vec T A
+    pub at : slice_get m.entries place ≡ Some (c, list)
+    pub room : vec_len list < vec_capacity list

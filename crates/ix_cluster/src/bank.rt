@@ -1,5 +1,5 @@
 //! A bank of clusters.
-ghost use Rattle.std.specs.Prelude.{◌≡◌, ℕ, ◌<◌, ◌≤◌, ◌+◌, ◌*◌, ◌^◌, not, length, slice_get, Option, Some, [], OnOk, IfOk, OnErr};
+ghost use Rattle.std.specs.Prelude.{◌≡◌, ℕ, ◌<◌, ◌≤◌, ◌+◌, ◌*◌, ◌^◌, not, length, filter, slice_get, Option, Some, [], OnOk, IfOk, OnErr};
 ghost use Rattle.std.specs.List.{IsDistinct};
 ghost use Rattle.ix_model.specs.declared.grammar.Mark.{Mark};
 ghost use Rattle.ix_model.specs.declared.rules.Sym.TheVariants as sym;
@@ -12,6 +12,7 @@ ghost use Rattle.ix_cluster.specs.Firsts.{firsts_of};
 ghost use Rattle.ix_cluster.specs.ClosedFacts.{IsInClosed};
 ghost use Rattle.ix_cluster.specs.Homes.{home, home_of};
 ghost use Rattle.ix_cluster.specs.Lists.{cluster};
+ghost use Rattle.ix_cluster.specs.LogPlaces.{is_no_claim};
 ghost use Rattle.ix_cluster.specs.Sound.{IsSound};
 ghost use Rattle.ix_cluster.specs.Room.{unclaimed_in};
 ghost use Rattle.ix_cluster.specs.Steps.{after_call, after_first, after_firsts, claim_answer, after_claim, arrival_answer, after_arrival, end_answer, edges_in, ends_in, edge_is_first, edge_answer, after_edge};
@@ -19,7 +20,7 @@ ghost use Rattle.ix_cluster.specs.Steps.{after_call, after_first, after_firsts, 
 use crate::answers::{Arrived, Claimed, Opened};
 use crate::cluster::{Cluster, Edge};
 use crate::fact::Fact;
-use crate::lists::{edges_of, ends_of, push_edge, push_end};
+use crate::lists::{list_of, place_for, push_at};
 use crate::log::Log;
 use indexmap::IndexMap;
 use ix_model::{Plan, Sub};
@@ -40,13 +41,13 @@ pub struct Bank {
 
 impl Model for Bank {
     ghost use Rattle.ix_cluster.specs.Seen.{Bank as Seen};
-    ghost use Rattle.ix_cluster.specs.Handed.{IsKept};
+    ghost use Rattle.ix_cluster.specs.Consistent.{IsConsistent};
 
     ghost Value = { Seen };
 
     ghost view = { λ b. record { log = b.log.facts; handed = b.handed } };
 
-    ghost invariant = { λ b. IsKept b.log.facts b.edges b.ends b.handed };
+    ghost invariant = { λ b. IsConsistent b.log.facts b.edges b.ends b.handed };
 }
 
 // Begins the alternative with this first slot at the position.
@@ -160,11 +161,11 @@ impl Bank {
         self.log.at(n)
     }
 
-    // The facts in the order in which they came.
-    pub(crate) fn facts(&self) -> &[Fact]
-        ensures { result.now ≡ self.now.log }
+    // The facts but the claims, in the order in which they came.
+    pub(crate) fn facts_but_claims(&self) -> &[Fact]
+        ensures { result.now ≡ filter is_no_claim self.now.log }
     {
-        self.log.facts()
+        self.log.facts_but_claims()
     }
 
     /// How many pairs of an edge and an end the answers have handed out.
@@ -178,21 +179,21 @@ impl Bank {
     pub fn is_claimed(&self, slot: u32, left: u32, pos: u32) -> bool
         ensures { result ≡ has self.now.log (fact.Claim slot left pos) }
     {
-        self.log.holds(Fact::Claim { slot, left, pos })
+        self.log.is_claimed(slot, left, pos)
     }
 
     /// How many edges the cluster has, 0 where it is not there.
     pub fn edge_count(&self, rule: u32, at: u32) -> u64
         ensures { result ≡ length (edges_in self.now.log (cluster rule at)) }
     {
-        edges_of(&self.edges, Cluster { rule, at }).len() as u64
+        list_of(&self.edges, Cluster { rule, at }).len() as u64
     }
 
     /// How many ends the cluster has, 0 where it is not there.
     pub fn end_count(&self, rule: u32, at: u32) -> u64
         ensures { result ≡ length (ends_in self.now.log (cluster rule at)) }
     {
-        ends_of(&self.ends, Cluster { rule, at }).len() as u64
+        list_of(&self.ends, Cluster { rule, at }).len() as u64
     }
 
     /// Claims the descriptor, and says whose it is: `Unknown` exactly where the bank has no such descriptor, `Taken`
@@ -243,14 +244,17 @@ impl Bank {
         // What is recorded is a fact of the closure, and this bank is its home.
         ensures sound { (plan : Parts) (count m : ℕ) → IsSound plan count m self.old → IsInClosed plan (fact.End rule at end) → home_of plan count (fact.End rule at end) ≡ m → IsSound plan count m self.new }
     {
-        if self.log.holds(Fact::End { rule, at, end }) {
-            return Ok(SmallVec::new(self.alloc));
-        }
         let cluster = Cluster { rule, at };
+        // First everything that can fail: room for the fact, for the answer and for the end.
         self.log.reserve(2)?;
-        let edges = SmallVec::from_slice(self.alloc, edges_of(&self.edges, cluster))?;
-        push_end(&mut self.ends, self.alloc, cluster, end)?;
-        self.log.add(Fact::End { rule, at, end });
+        let met = list_of(&self.edges, cluster);
+        let mut edges = SmallVec::with_capacity(self.alloc, met.len())?;
+        let place = place_for(&mut self.ends, self.alloc, cluster)?;
+        if !self.log.add(Fact::End { rule, at, end }) {
+            return Ok(edges);
+        }
+        push_at(&mut self.ends, place, end);
+        edges.extend_from_slice(met).unwrap();
         self.handed += edges.len() as u128;
         Ok(edges)
     }
@@ -279,30 +283,26 @@ impl Bank {
         // What is recorded is a fact of the closure, and this bank is its home.
         ensures sound { (count m : ℕ) → IsSound plan.now count m self.old → IsInClosed plan.now (fact.Edge rule at slot left) → home_of plan.now count (fact.Edge rule at slot left) ≡ m → IsSound plan.now count m self.new }
     {
-        if self.log.holds(Fact::Edge {
+        // What holds of each plan: the rule that a symbol names is there.
+        let _ = plan.slot_count();
+        let cluster = Cluster { rule, at };
+        // First everything that can fail: room for the facts, for the answer and for the edge.
+        self.log.reserve(call_room(plan, rule) + 2)?;
+        let met = list_of(&self.ends, cluster);
+        let mut ends = SmallVec::with_capacity(self.alloc, met.len())?;
+        let place = place_for(&mut self.edges, self.alloc, cluster)?;
+        let first = call(&mut self.log, plan, rule, at);
+        // An edge that was there called its cluster when it came.
+        if !self.log.add(Fact::Edge {
             rule,
             at,
             slot,
             left,
         }) {
-            return Ok(Opened {
-                first: false,
-                ends: SmallVec::new(self.alloc),
-            });
+            return Ok(Opened { first, ends });
         }
-        // What holds of each plan: the rule that a symbol names is there.
-        let _ = plan.slot_count();
-        let cluster = Cluster { rule, at };
-        self.log.reserve(call_room(plan, rule) + 2)?;
-        let ends = SmallVec::from_slice(self.alloc, ends_of(&self.ends, cluster))?;
-        push_edge(&mut self.edges, self.alloc, cluster, Edge { slot, left })?;
-        let first = call(&mut self.log, plan, rule, at);
-        self.log.add(Fact::Edge {
-            rule,
-            at,
-            slot,
-            left,
-        });
+        push_at(&mut self.edges, place, Edge { slot, left });
+        ends.extend_from_slice(met).unwrap();
         self.handed += ends.len() as u128;
         Ok(Opened { first, ends })
     }

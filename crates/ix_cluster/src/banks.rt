@@ -2,6 +2,7 @@
 ghost use Rattle.std.specs.Prelude.{◌≡◌, ◌<◌, ◌≤◌, ◌+◌, ◌++◌, length, slice_get, Some, IfOk, OnOk};
 ghost use Rattle.std.specs.List.{count_by, filter_map, fold};
 ghost use Rattle.ix_cluster.specs.Banks.{opening, opening_bank, facts_of, later_of, is_descriptor, sub_of};
+ghost use Rattle.ix_cluster.specs.Furthest.{IsFurthest};
 ghost use Rattle.ix_cluster.specs.Sound.{IsSound, AreSound};
 
 use crate::bank::Bank;
@@ -53,11 +54,12 @@ impl Banks {
 
     /// The greatest position of a descriptor, or 0, in characters from 0.
     pub fn furthest(&self) -> u32
-        ensures { result ≡ fold later_of 0 (facts_of self.now.banks.items) }
+        ensures value { result ≡ fold later_of 0 (facts_of self.now.banks.items) }
+        ensures greatest { IsFurthest (facts_of self.now.banks.items) result }
     {
         let mut furthest = 0;
         for bank in &self.banks {
-            furthest = later(furthest, bank.facts());
+            furthest = later(furthest, bank.facts_but_claims());
         }
         furthest
     }
@@ -71,7 +73,7 @@ impl Banks {
         for bank in &self.banks {
             // Each bank has fewer facts than any machine has memory for.
             let _ = bank.fact_count();
-            count += descriptor_count(bank.facts());
+            count += descriptor_count(bank.facts_but_claims());
         }
         count
     }
@@ -84,7 +86,7 @@ impl Banks {
     {
         let mut subs = Vec::new(alloc);
         for bank in &self.banks {
-            add_subs(&mut subs, bank.facts())?;
+            add_subs(&mut subs, bank.facts_but_claims())?;
         }
         Ok(subs)
     }

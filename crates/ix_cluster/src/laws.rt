@@ -1,4 +1,4 @@
-//! Worked examples of the definitions. Each function's contract is the example; the bodies are empty.
+//! Laws and worked examples of the definitions. Each function's contract is the law or the example; the bodies are empty.
 ghost use Rattle.std.specs.Prelude.{◌≡◌, ◌≢◌, ℕ, [], ◌∷◌, true, false, codes, Some, None, Contains};
 ghost use Rattle.std.specs.List.{count_by, filter_map, fold};
 ghost use Rattle.ix_model.specs.ExamplePlans.{cycle, nothing};
@@ -7,11 +7,18 @@ ghost use Rattle.ix_cluster.specs.declared.answers.Claimed.TheVariants as claime
 ghost use Rattle.ix_cluster.specs.declared.fact.Fact.TheVariants.{Called, Edge, End, Desc, Part, Claim};
 ghost use Rattle.ix_cluster.specs.Banks.{opening, opening_bank, facts_of, later_of, is_descriptor, sub_of};
 ghost use Rattle.ix_cluster.specs.ClosedFacts.{IsInClosed};
+ghost use Rattle.ix_cluster.specs.Consistent.{EdgesAreCalled, IsConsistent};
+ghost use Rattle.ix_cluster.specs.declared.log.Place.TheVariants.{Came, Claimed};
+ghost use Rattle.ix_cluster.specs.Examples.{two_ends, three_ends, one_edge, no_ends, empty_lists, full_ends};
 ghost use Rattle.ix_cluster.specs.Facts.{has, put, same_fact};
 ghost use Rattle.ix_cluster.specs.Firsts.{first_slot, firsts_of, is_at_end};
-ghost use Rattle.ix_cluster.specs.Handed.{meets, pair_count};
+ghost use Rattle.ix_cluster.specs.Furthest.{IsFurthest};
+ghost use Rattle.ix_cluster.specs.Handed.{meets, pair_count, IsKept};
 ghost use Rattle.ix_cluster.specs.Homes.{home, home_of};
-ghost use Rattle.ix_cluster.specs.Lists.{cluster, same_cluster};
+ghost use Rattle.ix_cluster.specs.Laws.{AreClustersOf, edges_times_ends, PairsAreByCluster, IsLaterOf, LaterIsGreatest};
+ghost use Rattle.ix_cluster.specs.Listed.{AreListed};
+ghost use Rattle.ix_cluster.specs.Lists.{cluster, same_cluster, list_at, PushesAt, KeepsLists, IsPlaceFor};
+ghost use Rattle.ix_cluster.specs.LogPlaces.{is_no_claim, claim_of, number_of, fact_at, log_of, AreMarked, IsLog};
 ghost use Rattle.ix_cluster.specs.Room.{is_unclaimed, unclaimed_in, HasRoom};
 ghost use Rattle.ix_cluster.specs.Sound.{AreTrue, HasCompanions, IsSound, AreSound};
 ghost use Rattle.ix_cluster.specs.Steps.{empty_sub, claim_answer, after_claim, arrival_answer, after_arrival, edges_in, ends_in, end_answer, after_call, after_edge, edge_is_first, edge_answer};
@@ -93,6 +100,62 @@ pub fn pairs_are_of_one_cluster()
     ensures clusters { same_cluster (cluster 0 1) (cluster 1 0) ≡ false }
 {}
 
+/// The pairs of an edge and an end are, over all clusters, the edges times the ends.
+pub fn pairs_are_by_cluster()
+    ensures { PairsAreByCluster }
+{}
+
+/// Of two edges and one end of one cluster and an end of another there are two pairs. A list of clusters names each once.
+pub fn clusters_of_a_log()
+    ensures clusters { AreClustersOf (Edge 0 0 2 0 ∷ Edge 0 0 3 0 ∷ End 0 0 1 ∷ End 0 1 1 ∷ []) (cluster 0 0 ∷ cluster 0 1 ∷ []) }
+    ensures two { edges_times_ends (Edge 0 0 2 0 ∷ Edge 0 0 3 0 ∷ End 0 0 1 ∷ End 0 1 1 ∷ []) (cluster 0 0) ≡ 2 }
+    ensures none { edges_times_ends (Edge 0 0 2 0 ∷ Edge 0 0 3 0 ∷ End 0 0 1 ∷ End 0 1 1 ∷ []) (cluster 0 1) ≡ 0 }
+    ensures missing { ¬ (AreClustersOf (End 0 1 1 ∷ []) (cluster 0 0 ∷ [])) }
+    ensures twice { ¬ (AreClustersOf [] (cluster 0 0 ∷ cluster 0 0 ∷ [])) }
+{}
+
+/// A cluster that the map lacks has an empty list.
+pub fn lists_are_kept_by_cluster()
+    ensures own { list_at two_ends (cluster 0 1) ≡ 4 ∷ [] }
+    ensures none { list_at two_ends (cluster 1 0) ≡ [] }
+    ensures other { list_at two_ends (cluster 0 0) ≢ 4 ∷ [] }
+{}
+
+/// An end goes behind those of its cluster, and no other list changes. To make room for an empty list changes no list.
+pub fn lists_change_at_one_cluster()
+    ensures pushes { PushesAt two_ends (cluster 0 0) 2 three_ends }
+    ensures elsewhere { ¬ (PushesAt two_ends (cluster 0 1) 2 three_ends) }
+    ensures nothing { ¬ (PushesAt two_ends (cluster 0 0) 2 two_ends) }
+    ensures keeps { KeepsLists no_ends empty_lists }
+    ensures changes { ¬ (KeepsLists two_ends three_ends) }
+{}
+
+/// A place for an item is that of the cluster's own list, with room.
+pub fn places_have_room()
+    ensures place { IsPlaceFor two_ends (cluster 0 1) 1 }
+    ensures other_list { ¬ (IsPlaceFor two_ends (cluster 0 1) 0) }
+    ensures behind { ¬ (IsPlaceFor two_ends (cluster 0 1) 2) }
+    ensures full { ¬ (IsPlaceFor full_ends (cluster 0 0) 0) }
+{}
+
+/// The cluster of an edge is called, in any bank.
+pub fn edges_call_their_clusters()
+    ensures called { EdgesAreCalled (Called 0 1 ∷ Edge 0 1 2 0 ∷ End 1 0 1 ∷ []) }
+    ensures not_called { ¬ (EdgesAreCalled (Called 0 0 ∷ Edge 0 1 2 0 ∷ [])) }
+    ensures consistent { IsConsistent (Called 0 0 ∷ Edge 0 0 2 0 ∷ End 0 0 1 ∷ End 0 1 4 ∷ []) one_edge two_ends 1 }
+    ensures without_call { ¬ (IsConsistent (Edge 0 0 2 0 ∷ End 0 0 1 ∷ End 0 1 4 ∷ []) one_edge two_ends 1) }
+    ensures miscounted { ¬ (IsConsistent (Called 0 0 ∷ Edge 0 0 2 0 ∷ End 0 0 1 ∷ End 0 1 4 ∷ []) one_edge two_ends 0) }
+{}
+
+/// A bank's lists are those of its log, and each pair of an edge and an end is counted once.
+pub fn bank_keeps_lists_of_its_log()
+    ensures listed { AreListed (Edge 0 0 2 0 ∷ End 0 0 1 ∷ End 0 1 4 ∷ []) one_edge two_ends }
+    ensures one_missing { ¬ (AreListed (Edge 0 0 2 0 ∷ End 0 0 1 ∷ []) one_edge two_ends) }
+    ensures other_order { ¬ (AreListed (End 0 0 2 ∷ End 0 0 1 ∷ End 0 1 4 ∷ Edge 0 0 2 0 ∷ []) one_edge three_ends) }
+    ensures kept { IsKept (Edge 0 0 2 0 ∷ End 0 0 1 ∷ End 0 1 4 ∷ []) one_edge two_ends 1 }
+    ensures counted_twice { ¬ (IsKept (Edge 0 0 2 0 ∷ End 0 0 1 ∷ End 0 1 4 ∷ []) one_edge two_ends 2) }
+{}
+
 /// A descriptor waits until its own claim is there.
 pub fn descriptor_waits_for_its_claim()
     ensures waits { is_unclaimed (Claim 2 0 0 ∷ []) (Desc 0 0 0) ≡ true }
@@ -100,6 +163,27 @@ pub fn descriptor_waits_for_its_claim()
     ensures count { unclaimed_in (Desc 0 0 0 ∷ Desc 2 0 0 ∷ Claim 2 0 0 ∷ []) ≡ 1 }
     ensures room { HasRoom (Desc 0 0 0 ∷ []) 3 1 2 }
     ensures no_room { ¬ (HasRoom (Desc 0 0 0 ∷ []) 2 1 2) }
+{}
+
+/// A claim stands at a place of its own in the log, and has no number of its own.
+pub fn claims_are_marks()
+    ensures plain { is_no_claim (Desc 0 0 0) ≡ true }
+    ensures claim { is_no_claim (Claim 0 0 0) ≡ false }
+    ensures of { claim_of (Desc 1 0 2) ≡ Claim 1 0 2 }
+    ensures other { claim_of (Called 0 0) ≡ Called 0 0 }
+    ensures number { number_of (Claimed 3) ≡ 3 }
+    ensures came { fact_at (Called 0 0 ∷ Desc 0 0 0 ∷ []) (Came 1) ≡ Desc 0 0 0 }
+    ensures claimed { fact_at (Called 0 0 ∷ Desc 0 0 0 ∷ []) (Claimed 1) ≡ Claim 0 0 0 }
+    ensures log { log_of (Called 0 0 ∷ Desc 0 0 0 ∷ End 0 0 1 ∷ []) (Came 0 ∷ Came 1 ∷ Claimed 1 ∷ Came 2 ∷ []) ≡ Called 0 0 ∷ Desc 0 0 0 ∷ Claim 0 0 0 ∷ End 0 0 1 ∷ [] }
+{}
+
+/// A log's marks tell which descriptors are claimed, its facts are numbered as they came, and each has one place.
+pub fn marks_tell_the_claims()
+    ensures marked { AreMarked (Called 0 0 ∷ Desc 0 0 0 ∷ []) (false ∷ true ∷ []) (Came 0 ∷ Came 1 ∷ Claimed 1 ∷ []) }
+    ensures not_marked { ¬ (AreMarked (Called 0 0 ∷ Desc 0 0 0 ∷ []) (false ∷ false ∷ []) (Came 0 ∷ Came 1 ∷ Claimed 1 ∷ [])) }
+    ensures other_order { ¬ (AreMarked (Called 0 0 ∷ Desc 0 0 0 ∷ []) (false ∷ false ∷ []) (Came 1 ∷ Came 0 ∷ [])) }
+    ensures fields { IsLog (Desc 0 0 0 ∷ []) (false ∷ []) (Came 0 ∷ []) 2 2 3 1 2 }
+    ensures no_room { ¬ (IsLog (Desc 0 0 0 ∷ []) (false ∷ []) (Came 0 ∷ []) 2 2 2 1 2) }
 {}
 
 /// Of two banks the first begins with the call of the first rule, and the second is empty.
@@ -114,6 +198,21 @@ pub fn banks_are_read_in_order()
     ensures furthest { fold later_of 0 (Desc 1 0 3 ∷ Claim 1 0 4 ∷ Desc 0 1 1 ∷ []) ≡ 3 }
     ensures descriptors { count_by is_descriptor (Desc 1 0 3 ∷ Claim 1 0 3 ∷ Desc 0 1 1 ∷ []) ≡ 2 }
     ensures subtrees { filter_map sub_of (Desc 1 0 3 ∷ Part (empty_sub 0 1) ∷ []) ≡ empty_sub 0 1 ∷ [] }
+{}
+
+/// The later of a position and those of some facts is the greatest of that position and the descriptors'.
+pub fn later_is_greatest()
+    ensures { LaterIsGreatest }
+{}
+
+/// Claims and subtrees do not count for the furthest position; without a descriptor it is 0.
+pub fn furthest_is_a_descriptors()
+    ensures furthest { IsFurthest (Desc 1 0 3 ∷ Claim 1 0 4 ∷ Desc 0 1 1 ∷ []) 3 }
+    ensures none { IsFurthest (Called 0 2 ∷ []) 0 }
+    ensures too_small { ¬ (IsFurthest (Desc 1 0 3 ∷ Desc 0 1 1 ∷ []) 1) }
+    ensures too_great { ¬ (IsFurthest (Desc 1 0 3 ∷ []) 4) }
+    ensures later { IsLaterOf 2 (Desc 0 1 1 ∷ []) 2 }
+    ensures not_later { ¬ (IsLaterOf 2 (Desc 0 1 1 ∷ []) 1) }
 {}
 
 /// The first rule is called at the start and not behind the text, and a claim is in the closure with its descriptor.

@@ -1,13 +1,16 @@
 //! Lists that are kept by cluster.
-ghost use Rattle.std.specs.Prelude.{◌≡◌, OnOk, OnErr};
-ghost use Rattle.ix_cluster.specs.Lists.{list_at, PushesAt, KeepsLists};
+ghost use Rattle.std.specs.Prelude.{◌≡◌, ◌<◌, Some, Vec, slice_get, IfOk, OnOk};
+ghost use Rattle.std.specs.declared.alloc.Global.{Global};
+ghost use Rattle.indexmap.specs.IndexMap.{index_map_len};
+ghost use Rattle.ix_cluster.specs.declared.cluster.Cluster.{Cluster};
+ghost use Rattle.ix_cluster.specs.Lists.{list_at, PushesAt, KeepsLists, IsPlaceFor};
 
-use crate::cluster::{Cluster, Edge};
+use crate::cluster::Cluster;
 use indexmap::IndexMap;
 use std::alloc::{AllocError, Global};
 
-// The edges of the cluster.
-pub(crate) fn edges_of<'a>(map: &'a IndexMap<Cluster, Vec<Edge>>, cluster: Cluster) -> &'a [Edge]
+// The list of the cluster.
+pub(crate) fn list_of<'a, T>(map: &'a IndexMap<Cluster, Vec<T>>, cluster: Cluster) -> &'a [T]
     ensures { result.now ≡ list_at map.now cluster }
 {
     match map.get(&cluster) {
@@ -16,52 +19,28 @@ pub(crate) fn edges_of<'a>(map: &'a IndexMap<Cluster, Vec<Edge>>, cluster: Clust
     }
 }
 
-// Adds an edge to those of the cluster.
-pub(crate) fn push_edge(
-    map: &mut IndexMap<Cluster, Vec<Edge>>,
+// Makes room for one more in the list of the cluster, and answers where the list stands. No list changes: a cluster that
+// the map lacks gets an empty one.
+pub(crate) fn place_for<T: Drop>(
+    map: &mut IndexMap<Cluster, Vec<T>>,
     alloc: Global,
     cluster: Cluster,
-    edge: Edge,
-) -> Result<(), AllocError>
-    ensures pushed { OnOk result (PushesAt map.old cluster edge map.new) }
-    ensures err { OnErr result (KeepsLists map.old map.new) }
+) -> Result<usize, AllocError>
+    ensures kept { KeepsLists map.old map.new }
+    ensures place { IfOk result (IsPlaceFor map.new cluster) }
 {
-    if let Some(list) = map.get_mut(&cluster) {
-        list.push(edge)?;
-    } else {
-        let mut list = Vec::new(alloc);
-        list.push(edge)?;
-        map.insert(cluster, list)?;
-    }
-    Ok(())
+    let entry = map.entry(cluster)?;
+    let place = entry.index();
+    let list = entry.or_insert(Vec::new(alloc));
+    list.reserve(1)?;
+    Ok(place)
 }
 
-// The ends of the cluster.
-pub(crate) fn ends_of<'a>(map: &'a IndexMap<Cluster, Vec<u32>>, cluster: Cluster) -> &'a [u32]
-    ensures { result.now ≡ list_at map.now cluster }
+// Adds an item to the list at the place.
+pub(crate) fn push_at<T>(map: &mut IndexMap<Cluster, Vec<T>>, place: usize, item: T)
+    requires { (c : Cluster) × IsPlaceFor map.old c place }
+    ensures { (c : Cluster) → IsPlaceFor map.old c place → PushesAt map.old c item map.new }
 {
-    match map.get(&cluster) {
-        Some(list) => list.as_slice(),
-        None => &[],
-    }
-}
-
-// Adds an end to those of the cluster.
-pub(crate) fn push_end(
-    map: &mut IndexMap<Cluster, Vec<u32>>,
-    alloc: Global,
-    cluster: Cluster,
-    end: u32,
-) -> Result<(), AllocError>
-    ensures pushed { OnOk result (PushesAt map.old cluster end map.new) }
-    ensures err { OnErr result (KeepsLists map.old map.new) }
-{
-    if let Some(list) = map.get_mut(&cluster) {
-        list.push(end)?;
-    } else {
-        let mut list = Vec::new(alloc);
-        list.push(end)?;
-        map.insert(cluster, list)?;
-    }
-    Ok(())
+    let (_, list) = map.pair_mut(place);
+    list.push_reserved(item);
 }

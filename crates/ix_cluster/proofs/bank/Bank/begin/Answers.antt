@@ -2,6 +2,8 @@ use Rattle.std.proofs.Common.{arith, ◌≡◌, sym, ap, rules, []}
 use Rattle.ix_cluster.specs.Steps.{after_call}
 use Rattle.ix_cluster.specs.declared.fact.Fact.{Fact}
 use Rattle.std.proofs.Common.{List}
+use Rattle.ix_cluster.specs.Consistent.{EdgesAreCalled}
+use Rattle.ix_cluster.proofs.CalledEdges.{called-call, called-none_yet}
 use Rattle.ix_cluster.proofs.Handing.{handed-call}
 use Rattle.ix_cluster.proofs.Listing.{AreListed-begin}
 use Rattle.std.proofs.Common.{length, subst}
@@ -11,10 +13,15 @@ use Rattle.ix_cluster.proofs.Soundness.{sound-begin}
 use Rattle.ix_cluster.proofs.bank.Bank.begin.Goals as goal
 
 pub invariant_of-result : goal.invariant_of-result
-invariant_of-result c = record {
-  listed = AreListed-begin c.args.plan.now c.call.new.log.facts c.new.result c.new-2.result c.new.ensures.empty c.new-2.ensures.empty (search rules);
-  counted = let e : c.call.new.log.facts ≡ after_call c.args.plan.now [] 0 0 = search rules in rw e (sym (handed-call c.args.plan.now [] 0 0));
-}
+invariant_of-result c =
+    let e : c.call.new.log.facts ≡ after_call c.args.plan.now [] 0 0 = search rules in
+    record {
+      kept = record {
+        listed = AreListed-begin c.args.plan.now c.call.new.log.facts c.new.result c.new-2.result c.new.ensures.empty c.new-2.ensures.empty e;
+        counted = rw e (sym (handed-call c.args.plan.now [] 0 0));
+      };
+      called = subst EdgesAreCalled (sym e) (called-call c.args.plan.now [] 0 0 called-none_yet);
+    }
 
 pub returns-clause-sound : goal.returns-clause-sound
 returns-clause-sound c count m here =

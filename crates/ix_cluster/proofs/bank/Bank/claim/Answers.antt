@@ -1,4 +1,6 @@
 use Rattle.std.proofs.Common.{refl, ◌∙◌, sym, subst}
+use Rattle.ix_cluster.specs.Consistent.{EdgesAreCalled}
+use Rattle.ix_cluster.proofs.CalledEdges.{called-claim}
 use Rattle.ix_cluster.proofs.Handing.{handed-claim}
 use Rattle.ix_cluster.proofs.Listing.{AreListed-claim}
 use Rattle.ix_cluster.specs.Sound.{IsSound}
@@ -7,8 +9,11 @@ use Rattle.ix_cluster.proofs.bank.Bank.claim.Goals as goal
 
 pub invariant_of-self : goal.invariant_of-self
 invariant_of-self c = record {
-  listed = AreListed-claim c.self.inside.log.facts c.self.inside.edges c.self.inside.ends c.self.invariant.listed c.claim.new.self.facts c.args.slot c.args.left c.args.pos c.claim.ensures.facts;
-  counted = rw c.claim.ensures.facts (c.self.invariant.counted ∙ sym (handed-claim c.self.inside.log.facts c.args.slot c.args.left c.args.pos));
+  kept = record {
+    listed = AreListed-claim c.self.inside.log.facts c.self.inside.edges c.self.inside.ends c.self.invariant.kept.listed c.claim.new.self.facts c.args.slot c.args.left c.args.pos c.claim.ensures.facts;
+    counted = rw c.claim.ensures.facts (c.self.invariant.kept.counted ∙ sym (handed-claim c.self.inside.log.facts c.args.slot c.args.left c.args.pos));
+  };
+  called = subst EdgesAreCalled (sym c.claim.ensures.facts) (called-claim c.self.inside.log.facts c.args.slot c.args.left c.args.pos c.self.invariant.called);
 }
 
 pub returns-clause-sound : goal.returns-clause-sound
