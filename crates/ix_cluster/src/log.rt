@@ -21,7 +21,7 @@ use std::marker::Model;
 // No machine has memory for so many facts.
 const MOST: u64 = 1 << 57;
 
-// So many facts have numbers.
+// So many facts have numbers. The set of facts holds fewer, so this refuses nothing that the set would take.
 const NUMBERS: u64 = 1 << 32;
 
 // What stands at a place of the log.
