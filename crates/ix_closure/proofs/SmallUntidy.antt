@@ -20,7 +20,7 @@ use Rattle.ix_cluster.proofs.Members.{put-keeps}
 use Rattle.ix_cluster.proofs.SmallBanks.{begins_sound, cycle_planned, first_begins}
 use Rattle.ix_cluster.proofs.Soundness.{companions-put, good-put, sound-arrival, sound-begin, sound-edge}
 use Rattle.ix_closure.specs.declared.owed.Owed.{Owed}
-use Rattle.ix_closure.specs.declared.owed.Owed.TheVariants.{Claim, Edge, End}
+use Rattle.ix_closure.specs.declared.owed.Owed.TheVariants.{Claim}
 use Rattle.ix_closure.specs.Balance.{IsBalanced}
 use Rattle.ix_closure.specs.Due.{IsRecorded, FollowsIn, claim, passed, inserted, waits, ends, meets}
 use Rattle.ix_closure.specs.Examples.{a_called, alone, cycle_called}
