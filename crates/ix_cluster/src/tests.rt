@@ -150,7 +150,14 @@ fn steps_of_a_bank_answer_once(rt: HostRuntime) -> Result<(), Fail> {
     assert_eq!(rt; bank.arrive(again)?, Arrived::Known);
     let opened = bank.add_edge(&plan, 0, 1, 0, 1)?;
     assert_eq!(rt; (opened.first, opened.ends.len()), (true, 0));
-    assert_eq!(rt; (bank.edge_count(0, 0), bank.end_count(0, 0)), (1, 1));
+    // A second edge of the first cluster meets its end.
+    let opened = bank.add_edge(&plan, 0, 0, 0, 1)?;
+    assert_eq!(rt;
+        (opened.first, opened.ends.as_slice()),
+        (false, [1].as_slice())
+    );
+    assert_eq!(rt; bank.handed(), 2);
+    assert_eq!(rt; (bank.edge_count(0, 0), bank.end_count(0, 0)), (2, 1));
     assert_eq!(rt; (bank.edge_count(0, 1), bank.end_count(0, 1)), (1, 0));
     assert_eq!(rt;
         facts_of(alloc, &bank)?.as_slice(),
@@ -208,6 +215,12 @@ fn steps_of_a_bank_answer_once(rt: HostRuntime) -> Result<(), Fail> {
             Fact::Edge {
                 rule: 0,
                 at: 1,
+                slot: 0,
+                left: 1
+            },
+            Fact::Edge {
+                rule: 0,
+                at: 0,
                 slot: 0,
                 left: 1
             },
