@@ -3,17 +3,17 @@ use Rattle.std.proofs.Common.{◌≡◌, ◌≢◌, ap, sym, subst, ◌∙◌, �
 use mathlib.Core.Logic.{inl, inr}
 use Rattle.std.proofs.lemmas.List.{get_or_default}
 use Rattle.ix_model.specs.declared.sub.Sub.{Sub}
-use Rattle.ix_model.specs.Parts.{Parts}
-use Rattle.ix_model.specs.Planned.{IsPlanned}
-use Rattle.ix_model.specs.Slots.{IsSlot, info_at}
-use Rattle.ix_model.specs.FlatDerives.{IsLine}
-use Rattle.ix_model.specs.Useful.{sub_at, Useful}
-use Rattle.ix_model.specs.TwoWays.{HasTwoWays}
+use Rattle.ix_model.specs.Expansion.Parts.{Parts}
+use Rattle.ix_model.specs.Expansion.Planned.{IsPlanned}
+use Rattle.ix_model.specs.Expansion.Slots.{IsSlot, info_at}
+use Rattle.ix_model.specs.Expansion.FlatDerives.{IsLine}
+use Rattle.ix_model.specs.Closure.Useful.{sub_at, Useful}
+use Rattle.ix_closure_laws.specs.TwoWays.{HasTwoWays}
 use Rattle.ix_model.proofs.Slots.{one_slot}
 use Rattle.ix_model.proofs.SlotPlaces.{same_slot, same_line}
 use Rattle.ix_model.proofs.SlotReaders.{last_reads}
-use Rattle.ix_model.proofs.Reaching.{reached_part, useful_reached}
-use Rattle.ix_model.proofs.ClosedWithin.{part_within}
+use Rattle.ix_closure_laws.proofs.Reaching.{reached_part, useful_reached}
+use Rattle.ix_closure_laws.proofs.ClosedWithin.{part_within}
 use Rattle.ix_subtrees.specs.Entries.{entry_for, entry_at}
 use Rattle.ix_subtrees.specs.Sets.{sub_of_entry, SetLists, IsSetOf}
 use Rattle.ix_subtrees.proofs.Visits.{less_or_not}

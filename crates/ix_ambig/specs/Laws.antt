@@ -1,7 +1,7 @@
 -- Worked examples of two choices and two ways.
 use Rattle.std.specs.Prelude.{[], ◌∷◌, codes}
-use Rattle.ix_model.specs.Useful.{sub_at}
-use Rattle.ix_model.specs.ExamplePlans.{only_a, two_alternatives, two_halves}
+use Rattle.ix_model.specs.Closure.Useful.{sub_at}
+use Rattle.ix_examples.specs.SmallPlans.{only_a, two_alternatives, two_halves}
 use Rattle.ix_subtrees.specs.Entries.{entry_for}
 use Rattle.ix_subtrees.specs.Sets.{SetLists}
 use Rattle.ix_ambig.specs.TwoChoices.{HasTwoChoices, HasTwoWaysAt}

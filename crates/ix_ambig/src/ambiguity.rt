@@ -1,9 +1,9 @@
 ghost use Rattle.std.specs.Prelude.{◌≡◌, ◌↔◌, ◌<◌, IsTrue, None, length};
 ghost use Rattle.ix_model.specs.declared.grammar.Grammar.{Grammar as AGrammar};
-ghost use Rattle.ix_model.specs.Slots.{info_at, sym_after};
-ghost use Rattle.ix_model.specs.Derives.{Ambiguous};
-ghost use Rattle.ix_model.specs.ExpansionLaws.{IsPlanOf};
-ghost use Rattle.ix_model.specs.TwoWays.{HasTwoWays};
+ghost use Rattle.ix_model.specs.Expansion.Slots.{info_at, sym_after};
+ghost use Rattle.ix_model.specs.Derivations.Derives.{Ambiguous};
+ghost use Rattle.ix_model.specs.Expansion.Planned.{IsPlanOf};
+ghost use Rattle.ix_closure_laws.specs.TwoWays.{HasTwoWays};
 ghost use Rattle.ix_subtrees.specs.Sets.{IsSetOf};
 ghost use Rattle.ix_ambig.specs.TwoChoices.{HasTwoChoices, HasTwoWaysAt};
 

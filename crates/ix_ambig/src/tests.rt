@@ -1,8 +1,8 @@
 ghost use Rattle.std.specs.Prelude.{◌≡◌, [], ◌∷◌, codes, IfOk};
-ghost use Rattle.ix_model.specs.Expanded.{line as a_line};
-ghost use Rattle.ix_model.specs.Numbering.{slot};
-ghost use Rattle.ix_model.specs.Planned.{IsPlanned};
-ghost use Rattle.ix_model.specs.ExamplePlans.{only_a, cycle, two_alternatives};
+ghost use Rattle.ix_model.specs.Expansion.Expanded.{line as a_line};
+ghost use Rattle.ix_model.specs.Expansion.Numbering.{slot};
+ghost use Rattle.ix_model.specs.Expansion.Planned.{IsPlanned};
+ghost use Rattle.ix_examples.specs.SmallPlans.{only_a, cycle, two_alternatives};
 ghost use Rattle.ix_subtrees.specs.Examples.{parts_of, flat, repeated_nothing};
 
 use crate::two;

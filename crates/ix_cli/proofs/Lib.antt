@@ -1,11 +1,13 @@
 pub mod Alternatives
 pub mod LineForms
+pub mod Lines
 pub mod Lists
 pub mod LoadedFiles
 pub mod OneReply
 pub mod PlainTrees
 pub mod Refusing
 pub mod Replies
+pub mod Runs
 pub mod SmallReplies
 pub mod Statuses
 pub mod TermNumbers

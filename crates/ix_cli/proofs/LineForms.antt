@@ -1,9 +1,9 @@
 -- Lines of refused grammars, as they are written and as the table has them.
-use Rattle.std.proofs.Common.{◌≡◌, ap, sym, ◌∙◌, ℕ, List, ◌∷◌, [], ◌++◌, append_assoc}
+use Rattle.std.proofs.Common.{◌≡◌, ap, sym, ℕ, List, ◌∷◌, [], ◌++◌, append_assoc}
 use Rattle.std.specs.Prelude.{codes, decimal}
-use Rattle.ix_model.specs.Breach.{version, range}
-use Rattle.ix_model.specs.Outcome.{grammar_not_utf8, not_conforming, hexadecimal, message_of}
-use Rattle.ix_model.specs.Xml.{name_bytes}
+use Rattle.ix_model.specs.Grammars.Breach.{version, range}
+use Rattle.ix_model.specs.Answers.Outcome.{grammar_not_utf8, not_conforming, hexadecimal, message_of}
+use Rattle.ix_model.specs.Documents.Xml.{name_bytes}
 
 pub not_utf8_line : (valid : ℕ) → codes "ixml: grammar is not UTF-8 after " ++ (decimal valid ++ codes " bytes\n") ≡ message_of (grammar_not_utf8 valid)
 not_utf8_line valid = ap (λ l. codes "ixml: grammar is not UTF-8 after " ++ l) (sym (append_assoc (decimal valid) (codes " bytes") (10 ∷ [])))

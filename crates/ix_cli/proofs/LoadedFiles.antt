@@ -6,8 +6,8 @@ use Rattle.ix_edge.specs.Told.{Told, held, Loads}
 use Rattle.ix_model.specs.declared.grammar.Grammar.{Grammar}
 use Rattle.ix_engine.specs.declared.refusal.Refusal.{Refusal}
 use Rattle.ix_engine.specs.declared.refusal.Refusal.TheVariants as refusal
-use Rattle.ix_model.specs.Answer.{HoldsConforming, GrammarRefused}
-use Rattle.ix_model.specs.Outcome.{Outcome, grammar_too_long, grammar_not_utf8, no_grammar, too_deep, not_conforming}
+use Rattle.ix_model.specs.Answers.Answer.{HoldsConforming, GrammarRefused}
+use Rattle.ix_model.specs.Answers.Outcome.{Outcome, grammar_too_long, grammar_not_utf8, no_grammar, too_deep, not_conforming}
 use Rattle.ix_engine.specs.Compiled.{outcome_of, IsRefused}
 use Rattle.ix_cli.specs.Loaded.{Holds, IsGrammarFault}
 use Rattle.ix_cli.specs.Refusals.{of_refusal}

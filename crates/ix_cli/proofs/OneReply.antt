@@ -3,13 +3,13 @@ use Rattle.std.proofs.Common.{◌≡◌, refl, sym, ap, ◌∙◌, subst, ℕ, L
 use mathlib.Core.Logic.{inl, inr}
 use Rattle.ix_model.specs.declared.grammar.Grammar.{Grammar}
 use Rattle.ix_model.specs.declared.state.State.TheVariants.{Single}
-use Rattle.ix_model.specs.Gives.{gives_root}
+use Rattle.ix_model.specs.Documents.Gives.{gives_root}
 use Rattle.ix_edge.specs.Told.{Told}
-use Rattle.ix_model.specs.Decoding.{decoded}
-use Rattle.ix_model.specs.Answer.{HoldsConforming}
-use Rattle.ix_model.specs.Outcome.{document}
-use Rattle.ix_model.proofs.OneAnswer.{refused_once, refused_or_held}
-use Rattle.ix_model.proofs.ReadingComplete.{spelled_once}
+use Rattle.ix_model.specs.Answers.Decoding.{decoded}
+use Rattle.ix_model.specs.Answers.Answer.{HoldsConforming}
+use Rattle.ix_model.specs.Answers.Outcome.{document}
+use Rattle.ix_answer_laws.proofs.OneAnswer.{refused_once, refused_or_held}
+use Rattle.ix_spelling_laws.proofs.ReadingComplete.{spelled_once}
 use Rattle.ix_cli.specs.Reply.{Reply, reply, not_built, IsTextReply, HeldReply, GrammarReply, IsFilesReply, IsReply}
 use Rattle.ix_cli.proofs.Lists.{some_is}
 

@@ -10,19 +10,19 @@ use Rattle.ix_model.specs.declared.grammar.Member.{Member}
 use Rattle.ix_model.specs.declared.grammar.Term.{Term, One}
 use Rattle.ix_model.specs.declared.grammar.Factor.{Lit, Set}
 use Rattle.ix_model.specs.declared.grammar.Factor.TheViews.{out-Factor}
-use Rattle.ix_model.specs.Written.{IsAlternative}
-use Rattle.ix_model.specs.Plain.{IsPlain, ArePlain}
-use Rattle.ix_model.specs.Trees.{Tree, text, node, Trees, no_tree, and, tree_count}
-use Rattle.ix_model.specs.Terminals.{Matches}
-use Rattle.ix_model.specs.Derives.{Derives, DerivesFirst, IsDerivation}
-use Rattle.ix_model.specs.Bare.{bare_text, none, more, join, no_term, factor_of, is_shown_in, bare, bare_all, terms_at, rule_alts, rule_name, rule_mark, effective}
-use Rattle.ix_model.specs.Gives.{nothing, followed, element, put_run, join_given, of_mark, values, gives_all, gives_root}
+use Rattle.ix_model.specs.Grammars.Written.{IsAlternative}
+use Rattle.ix_cli.specs.Plain.{IsPlain, ArePlain}
+use Rattle.ix_model.specs.Derivations.Trees.{Tree, text, node, Trees, no_tree, and, tree_count}
+use Rattle.ix_model.specs.Matching.Terminals.{Matches}
+use Rattle.ix_model.specs.Derivations.Derives.{Derives, DerivesFirst, IsDerivation}
+use Rattle.ix_model.specs.Documents.Bare.{bare_text, none, more, join, no_term, factor_of, is_shown_in, bare, bare_all, terms_at, rule_alts, rule_name, rule_mark, effective}
+use Rattle.ix_model.specs.Documents.Gives.{nothing, followed, element, put_run, join_given, of_mark, values, gives_all, gives_root}
 use Rattle.ix_model.specs.declared.state.State.TheVariants.{Single}
-use Rattle.ix_model.specs.Xml.{xml}
+use Rattle.ix_model.specs.Documents.Xml.{xml}
 use Rattle.ix_model.proofs.Forming.{factor_of_one}
 use Rattle.ix_model.proofs.Forms.{derived_form, out_lit, out_set}
-use Rattle.ix_model.proofs.Lines.{matches_once, plain_form, plain_tree, plain_at}
-use Rattle.ix_model.proofs.Runs.{AreTexts, AreTexts-join, values-join, gives_all-texts}
+use Rattle.ix_cli.proofs.Lines.{matches_once, plain_form, plain_tree, plain_at}
+use Rattle.ix_cli.proofs.Runs.{AreTexts, AreTexts-join, values-join, gives_all-texts}
 use Rattle.ix_cli.specs.Once.{HasPlainRule, IsOnly, IsOnlyDocument, DerivesAs, IsOnlyAlternative}
 use Rattle.ix_cli.proofs.Alternatives.{plain_alt_at}
 use Rattle.ix_cli.proofs.Lists.{some_is}

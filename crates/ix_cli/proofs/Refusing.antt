@@ -3,7 +3,7 @@ use Rattle.std.proofs.Common.{◌≡◌, ◌≢◌, refl, sym, subst, ℕ, List,
 use Rattle.std.specs.Io.KnownBytes.{Appends}
 use Rattle.std.proofs.KnownBytes.{Appends-nil}
 use mathlib.Core.Logic.{inl, inr}
-use Rattle.ix_model.specs.Outcome.{no_form}
+use Rattle.ix_model.specs.Answers.Outcome.{no_form}
 use Rattle.ix_edge.specs.Told.{Told}
 use Rattle.ix_engine.specs.declared.refusal.Refusal.TheVariants as refusal
 use Rattle.ix_cli.specs.declared.answer.Answer.{Answer}

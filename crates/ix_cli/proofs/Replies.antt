@@ -4,14 +4,14 @@ use Rattle.std.specs.Prelude.{◌⊎◌}
 use Rattle.std.specs.Result.{IsErrAnd}
 use mathlib.Core.Logic.{inl, inr}
 use Rattle.ix_model.specs.declared.grammar.Grammar.{Grammar}
-use Rattle.ix_model.specs.Trees.{Tree}
+use Rattle.ix_model.specs.Derivations.Trees.{Tree}
 use Rattle.ix_edge.specs.Causes.{Rose}
 use Rattle.ix_edge.specs.Told.{Told}
-use Rattle.ix_model.specs.Answer.{HoldsConforming}
-use Rattle.ix_model.specs.Outcome.{document}
+use Rattle.ix_model.specs.Answers.Answer.{HoldsConforming}
+use Rattle.ix_model.specs.Answers.Outcome.{document}
 use Rattle.ix_engine.specs.Compiled.{outcome_of}
 use Rattle.ix_model.specs.declared.state.State.TheVariants.{Single}
-use Rattle.ix_model.specs.Gives.{gives_root}
+use Rattle.ix_model.specs.Documents.Gives.{gives_root}
 use Rattle.ix_cli.specs.declared.answer.Answer.{Answer}
 use Rattle.ix_cli.specs.declared.answer.Answer.TheVariants as answer
 use Rattle.ix_cli.specs.Form.{HasForm}

@@ -7,21 +7,21 @@ use Rattle.unicode.specs.GeneralCategory.{general_category}
 use Rattle.unicode.specs.Rows.{value_in}
 use Rattle.ucd_category.specs.GeneralCategoryRows.{general_category_rows}
 use Rattle.std.specs.Str.{chars}
-use Rattle.ix_model.specs.Characters.{is_blank, is_name_start, is_name_part}
-use Rattle.ix_model.specs.ExampleGrammars as grammars
-use Rattle.ix_model.specs.ExampleTrees.{node_of, a_tree}
-use Rattle.ix_model.specs.Trees.{text}
+use Rattle.ix_model.specs.Spelling.Characters.{is_blank, is_name_start, is_name_part}
+use Rattle.ix_examples.specs.SmallGrammars as grammars
+use Rattle.ix_examples.specs.SmallTrees.{node_of, a_tree}
+use Rattle.ix_model.specs.Derivations.Trees.{text}
 use Rattle.ix_model.specs.declared.state.State.TheVariants.{Single}
-use Rattle.ix_model.specs.Gives.{Givens, nothing, gives_root}
-use Rattle.ix_model.specs.Xml.{xml}
-use Rattle.ix_model.proofs.SmallTexts.{a_derives, one_a, earlier_derives, later_derives, first}
+use Rattle.ix_model.specs.Documents.Gives.{Givens, nothing, gives_root}
+use Rattle.ix_model.specs.Documents.Xml.{xml}
+use Rattle.ix_examples.proofs.SmallTexts.{a_derives, one_a, earlier_derives, later_derives, first}
 use Rattle.ix_model.specs.declared.grammar.Grammar.{Grammar}
 use Rattle.ix_model.specs.declared.grammar.Chars.TheVariants.{Quoted}
-use Rattle.ix_model.specs.Answer.{HoldsConforming}
-use Rattle.ix_model.specs.Outcome.{document, no_grammar}
-use Rattle.ix_model.specs.ExampleAnswers.{parse_g_t, one_way, both_ways}
-use Rattle.ix_model.proofs.ByReading.{reads, reads_none}
-use Rattle.ix_model.proofs.Answers.{only_a_conforms, two_ways_conforms, shallow_a, shallow_both}
+use Rattle.ix_model.specs.Answers.Answer.{HoldsConforming}
+use Rattle.ix_model.specs.Answers.Outcome.{document, no_grammar}
+use Rattle.ix_examples.specs.SmallAnswers.{parse_g_t, one_way, both_ways}
+use Rattle.ix_spelling_laws.proofs.ByReading.{reads, reads_none}
+use Rattle.ix_examples.proofs.SmallConforming.{only_a_conforms, two_ways_conforms, shallow_a, shallow_both}
 use Rattle.ix_cli.specs.Answered.{IsAnswered, IsCutOff}
 use Rattle.ix_cli.specs.Examples.{holding, raised, no_count}
 use Rattle.ix_cli.specs.Form.{HasForm}

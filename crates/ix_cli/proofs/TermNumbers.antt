@@ -1,5 +1,5 @@
 -- The numbers in the terms of a grammar that conforms are those of characters.
-use Rattle.std.proofs.Common.{◌≡◌, ap, ◌∙◌, sym, subst, ℕ, zero, suc, List, [], ◌∷◌, Some, slice_get, append-nil}
+use Rattle.std.proofs.Common.{◌≡◌, ◌∙◌, subst, ℕ, zero, suc, List, [], ◌∷◌, Some, slice_get}
 use Rattle.std.specs.Prelude.{Bool, Option}
 use Rattle.std.specs.List.{AllByRecursion, flat_map}
 use Rattle.ix_model.specs.declared.grammar.Grammar.{Grammar}
@@ -9,14 +9,13 @@ use Rattle.ix_model.specs.declared.grammar.Member.{Member}
 use Rattle.ix_model.specs.declared.grammar.TMark.{TMark}
 use Rattle.ix_model.specs.declared.grammar.Alt.{Alt}
 use Rattle.ix_model.specs.declared.grammar.Term.{Term, One}
-use Rattle.ix_model.specs.declared.grammar.Factor.{Factor, Lit, Set}
-use Rattle.ix_model.specs.Breach.{Conforming, IsCodePoint}
-use Rattle.ix_model.specs.ConformanceLaws.{IsFaultless}
-use Rattle.ix_model.specs.Factors.{codes_of_chars, codes_of_factor, factors_of_alt, factors_of_term, codes_of}
-use Rattle.ix_model.specs.Spells.{IsHex}
+use Rattle.ix_model.specs.declared.grammar.Factor.{Lit, Set}
+use Rattle.ix_model.specs.Grammars.Breach.{Conforming, IsCodePoint}
+use Rattle.ix_model.specs.Grammars.Factors.{codes_of_chars, codes_of_factor, factors_of_alt, factors_of_term}
+use Rattle.ix_model.specs.Spelling.Spells.{IsHex}
 use Rattle.ix_model.proofs.AllOf.{all_both, all_parts, all_weaker}
-use Rattle.ix_model.proofs.FactorLists.{of_lit, of_set, of_one, of_alt}
-use Rattle.ix_model.proofs.Judging.{faultless}
+use Rattle.ix_conformance_laws.proofs.FactorLists.{of_lit, of_set, of_one, of_alt}
+use Rattle.ix_conformance_laws.proofs.Judging.{faultless}
 use Rattle.ix_cli.specs.Numbers.{AreCharacters, HasCharacters, IsOfCharacters, AreOfCharacters}
 use Rattle.ix_cli.specs.Once.{HasPlainRule}
 

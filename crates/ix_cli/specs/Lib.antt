@@ -6,6 +6,7 @@ pub mod Lines
 pub mod Loaded
 pub mod Numbers
 pub mod Once
+pub mod Plain
 pub mod PlainGrammar
 pub mod PlainText
 pub mod Refusals

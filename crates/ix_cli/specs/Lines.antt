@@ -1,7 +1,7 @@
 -- The line and the status of each answer that is no document.
 use Rattle.std.specs.Prelude.{ℕ, List, [], ◌∷◌, ◌++◌, codes, string_bytes}
-use Rattle.ix_model.specs.Outcome.{no_form, message_of}
-use Rattle.ix_model.specs.Outcome as outcome
+use Rattle.ix_model.specs.Answers.Outcome.{no_form, message_of}
+use Rattle.ix_model.specs.Answers.Outcome as outcome
 use Rattle.ix_engine.specs.declared.refusal.Refusal.{Refusal}
 use Rattle.ix_engine.specs.declared.refusal.Refusal.TheVariants as refusal
 use Rattle.ix_engine.specs.Compiled.{outcome_of}

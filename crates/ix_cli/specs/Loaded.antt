@@ -4,7 +4,7 @@ use Rattle.ix_model.specs.declared.grammar.Grammar.{Grammar}
 use Rattle.ix_edge.specs.Causes.{Rose}
 use Rattle.ix_edge.specs.Told.{Told, held}
 use Rattle.ix_engine.specs.declared.refusal.Refusal.TheVariants as refusal
-use Rattle.ix_model.specs.Answer.{HoldsConforming, GrammarRefused}
+use Rattle.ix_model.specs.Answers.Answer.{HoldsConforming, GrammarRefused}
 use Rattle.ix_engine.specs.Compiled.{outcome_of}
 use Rattle.ix_cli.specs.PlainGrammar.{IsPlainGrammar}
 use Rattle.ix_cli.specs.PlainText.{IsPlainText}

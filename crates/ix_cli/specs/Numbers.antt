@@ -4,9 +4,9 @@ use Rattle.std.specs.List.{AllByRecursion}
 use Rattle.ix_model.specs.declared.grammar.Alt.{Alt}
 use Rattle.ix_model.specs.declared.grammar.Factor.{Factor}
 use Rattle.ix_model.specs.declared.grammar.Term.{Term}
-use Rattle.ix_model.specs.Breach.{IsCodePoint}
-use Rattle.ix_model.specs.Factors.{codes_of_factor, factors_of_term}
-use Rattle.ix_model.specs.Spells.{IsHex}
+use Rattle.ix_model.specs.Grammars.Breach.{IsCodePoint}
+use Rattle.ix_model.specs.Grammars.Factors.{codes_of_factor, factors_of_term}
+use Rattle.ix_model.specs.Spelling.Spells.{IsHex}
 
 -- each number is written in hexadecimal digits, and is that of a character
 abbrev pub AreCharacters : List (List ℕ) → Type 0

@@ -6,12 +6,12 @@ use Rattle.ix_model.specs.declared.grammar.Rule.{Rule}
 use Rattle.ix_model.specs.declared.grammar.Alt.{Alt}
 use Rattle.ix_model.specs.declared.grammar.Term.{Term}
 use Rattle.ix_model.specs.declared.state.State.TheVariants.{Single}
-use Rattle.ix_model.specs.Gives.{gives_root}
-use Rattle.ix_model.specs.Xml.{xml}
-use Rattle.ix_model.specs.Written.{IsAlternative}
-use Rattle.ix_model.specs.Trees.{Tree, Trees}
-use Rattle.ix_model.specs.Derives.{DerivesAll, IsDerivation}
-use Rattle.ix_model.specs.Plain.{ArePlain}
+use Rattle.ix_model.specs.Documents.Gives.{gives_root}
+use Rattle.ix_model.specs.Documents.Xml.{xml}
+use Rattle.ix_model.specs.Grammars.Written.{IsAlternative}
+use Rattle.ix_model.specs.Derivations.Trees.{Tree, Trees}
+use Rattle.ix_model.specs.Derivations.Derives.{DerivesAll, IsDerivation}
+use Rattle.ix_cli.specs.Plain.{ArePlain}
 
 -- the terms of each of the alternatives are plain
 abbrev pub ArePlainAlts : List Alt → Type 0

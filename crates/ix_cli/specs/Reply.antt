@@ -2,12 +2,12 @@
 use Rattle.std.specs.Prelude.{◌≡◌, ◌⊎◌, ℕ, List, [], Some}
 use Rattle.ix_model.specs.declared.grammar.Grammar.{Grammar}
 use Rattle.ix_model.specs.declared.state.State.TheVariants.{Single}
-use Rattle.ix_model.specs.Trees.{Tree}
-use Rattle.ix_model.specs.Gives.{Givens, gives_root}
-use Rattle.ix_model.specs.Xml.{xml}
-use Rattle.ix_model.specs.Answer.{HoldsConforming, GrammarRefused}
-use Rattle.ix_model.specs.Outcome.{Outcome, no_form, document, message_of}
-use Rattle.ix_model.specs.Outcome as outcome
+use Rattle.ix_model.specs.Derivations.Trees.{Tree}
+use Rattle.ix_model.specs.Documents.Gives.{Givens, gives_root}
+use Rattle.ix_model.specs.Documents.Xml.{xml}
+use Rattle.ix_model.specs.Answers.Answer.{HoldsConforming, GrammarRefused}
+use Rattle.ix_model.specs.Answers.Outcome.{Outcome, no_form, document, message_of}
+use Rattle.ix_model.specs.Answers.Outcome as outcome
 use Rattle.ix_edge.specs.Told.{Told, held}
 use Rattle.ix_cli.specs.Form.{HasForm, HasSomeForm}
 use Rattle.ix_cli.specs.Lines.{not_built_line}

@@ -3,7 +3,7 @@ use Rattle.std.specs.Prelude.{◌≡◌, ◌⊎◌, ℕ, List, Option}
 use Rattle.ix_model.specs.declared.grammar.Grammar.{Grammar}
 use Rattle.ix_edge.specs.Causes.{Rose}
 use Rattle.ix_edge.specs.Told.{Told}
-use Rattle.ix_model.specs.Answer.{HoldsConforming}
+use Rattle.ix_model.specs.Answers.Answer.{HoldsConforming}
 use Rattle.ix_cli.specs.Form.{HasForm}
 use Rattle.ix_cli.specs.Loaded.{Holds}
 use Rattle.ix_cli.specs.PlainGrammar.{IsPlainGrammar}

@@ -1,8 +1,8 @@
 ghost use Rattle.std.specs.Prelude.{◌≡◌, ◌<◌, ◌++◌, [], length, IfOk, OnOk, codes, encode_utf8, string_bytes};
 ghost use Rattle.std.specs.List.{flat_map};
 ghost use Rattle.ix_model.specs.declared.state.State.TheVariants.{Single};
-ghost use Rattle.ix_model.specs.Gives.{element, nothing, followed, put_run};
-ghost use Rattle.ix_model.specs.Xml.{xml, content_bytes, name_bytes};
+ghost use Rattle.ix_model.specs.Documents.Gives.{element, nothing, followed, put_run};
+ghost use Rattle.ix_model.specs.Documents.Xml.{xml, content_bytes, name_bytes};
 
 use std::alloc::{AllocError, Global};
 

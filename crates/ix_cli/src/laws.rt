@@ -1,19 +1,24 @@
 //! Laws of the definitions that the command's contract speaks of. Each function's contract is the law; the bodies are
 //! empty.
-ghost use Rattle.std.specs.Prelude.{◌≡◌, [], ◌∷◌, Some, codes};
+ghost use Rattle.std.specs.Prelude.{◌≡◌, true, [], ◌∷◌, None, Some, codes};
+ghost use Rattle.ix_model.specs.declared.grammar.Chars.TheVariants.{Code};
+ghost use Rattle.ix_model.specs.declared.grammar.Factor.{Lit, Set};
+ghost use Rattle.ix_model.specs.declared.grammar.TMark.TheVariants.{Deleted};
+ghost use Rattle.ix_model.specs.declared.grammar.Term.{One};
 ghost use Rattle.ix_cli.specs.Answered.{IsAnswered, IsCutOff, IsMessage};
 ghost use Rattle.ix_cli.specs.Examples.{holding, raised, no_count};
-ghost use Rattle.ix_model.specs.ExampleAnswers.{parse_g_t, one_way, both_ways};
+ghost use Rattle.ix_examples.specs.SmallAnswers.{parse_g_t, one_way, both_ways};
 ghost use Rattle.ix_cli.specs.Form.{HasForm, HasSomeForm};
 ghost use Rattle.ix_cli.specs.Laws.{ReplyIsOne};
 ghost use Rattle.ix_cli.specs.Lines.{memory_line, not_built_line, write_line};
+ghost use Rattle.ix_cli.specs.Plain.{IsPlain, ArePlain};
 ghost use Rattle.ix_cli.specs.PlainGrammar.{IsPlainGrammar};
 ghost use Rattle.ix_cli.specs.PlainText.{IsPlainText};
 ghost use Rattle.ix_cli.specs.Reply.{reply, not_built, IsReply, HasDocument};
-ghost use Rattle.ix_model.specs.ExampleGrammars.{only_a, quoted, same_names};
-ghost use Rattle.ix_model.specs.ExampleSpellings.{of_version};
+ghost use Rattle.ix_examples.specs.SmallGrammars.{only_a, quoted, deleted, call, same_names};
+ghost use Rattle.ix_examples.specs.SmallSpellings.{of_version};
 ghost use Rattle.ix_cli.specs.Numbers.{AreCharacters};
-ghost use Rattle.ix_model.specs.Outcome.{no_form, no_grammar};
+ghost use Rattle.ix_model.specs.Answers.Outcome.{no_form, no_grammar};
 ghost use Rattle.ix_cli.specs.Says.{Says};
 ghost use Rattle.ix_cli.specs.Unread.{IsUnread};
 
@@ -96,4 +101,16 @@ pub fn numbers_of_characters()
     ensures letter { AreCharacters (codes "41" ∷ []) }
     ensures surrogate { ¬ (AreCharacters (codes "D800" ∷ [])) }
     ensures beyond { ¬ (AreCharacters (codes "41" ∷ codes "110000" ∷ [])) }
+{}
+
+/// A plain term is a literal or a set without a mark.
+pub fn plain_terms()
+    ensures literal { IsPlain (quoted (codes "a")) }
+    ensures number { IsPlain (One (Lit None (Code (codes "41")))) }
+    ensures set { IsPlain (One (Set None true [])) }
+    ensures deleted_set { ¬ (IsPlain (One (Set (Some Deleted) true []))) }
+    ensures mark { ¬ (IsPlain (One (deleted (codes "a")))) }
+    ensures call { ¬ (IsPlain (call (codes "a"))) }
+    ensures both { ArePlain (quoted (codes "a") ∷ quoted [] ∷ []) }
+    ensures not_both { ¬ (ArePlain (quoted (codes "a") ∷ call (codes "a") ∷ [])) }
 {}

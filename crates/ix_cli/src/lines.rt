@@ -1,8 +1,8 @@
 //! The line of each answer.
 
 ghost use Rattle.std.specs.Prelude.{◌≡◌, ◌++◌, IfOk, codes, decimal};
-ghost use Rattle.ix_model.specs.Outcome.{hexadecimal};
-ghost use Rattle.ix_model.specs.Xml.{name_bytes};
+ghost use Rattle.ix_model.specs.Answers.Outcome.{hexadecimal};
+ghost use Rattle.ix_model.specs.Documents.Xml.{name_bytes};
 ghost use Rattle.ix_cli.specs.Lines.{line_of, read_line, refusal_line};
 
 use crate::answer::Answer;
@@ -78,7 +78,7 @@ fn about(alloc: Global, before: &str, text: &Text, behind: &str) -> Result<Vec<u
     Ok(format!(in alloc; "{before}{text}{behind}")?.into_bytes())
 }
 
-#[tactic(auto, unfolding(ix_model::specs::Outcome::hexadecimal))]
+#[tactic(auto, unfolding(ix_model::specs::Answers::Outcome::hexadecimal))]
 fn range_message(alloc: Global, low: u32, high: u32) -> Result<Vec<u8>, AllocError>
     ensures { IfOk result (λ line. line.items ≡ codes "ixml: G04: range from #" ++ (hexadecimal low ++ (codes " to #" ++ (hexadecimal high ++ codes "\n")))) }
 {

@@ -1,6 +1,6 @@
 ghost use Rattle.std.specs.Prelude.{◌≡◌, ◌≤◌, ℕ, List, IfOk, IfErr, take};
-ghost use Rattle.ix_model.specs.Answer.{HoldsConforming};
-ghost use Rattle.ix_model.specs.Breach.{Conforming};
+ghost use Rattle.ix_model.specs.Answers.Answer.{HoldsConforming};
+ghost use Rattle.ix_model.specs.Grammars.Breach.{Conforming};
 ghost use Rattle.ix_cli.specs.Loaded.{Holds, IsLoadFault, IsGrammarFault, IsTextFault};
 ghost use Rattle.ix_cli.specs.PlainGrammar.{IsPlainGrammar};
 ghost use Rattle.ix_cli.specs.PlainText.{IsPlainText};

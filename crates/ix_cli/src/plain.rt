@@ -1,7 +1,7 @@
 ghost use Rattle.std.specs.Prelude.{◌≡◌, ◌<◌, ◌⊎◌, ◌↔◌, length, IfOk, IfErr, IsTrue, None, Err, string_bytes};
-ghost use Rattle.ix_model.specs.Trees.{Tree};
-ghost use Rattle.ix_model.specs.Breach.{Conforming};
-ghost use Rattle.ix_model.specs.Plain.{IsPlain, ArePlain};
+ghost use Rattle.ix_model.specs.Derivations.Trees.{Tree};
+ghost use Rattle.ix_model.specs.Grammars.Breach.{Conforming};
+ghost use Rattle.ix_cli.specs.Plain.{IsPlain, ArePlain};
 ghost use Rattle.ix_cli.specs.Once.{ArePlainAlts, IsOnly, IsOnlyDocument};
 ghost use Rattle.ix_cli.specs.PlainGrammar.{IsPlainGrammar, IsPlainName};
 ghost use Rattle.ix_cli.specs.PlainText.{IsPlainText};

@@ -2,10 +2,10 @@ ghost use Rattle.std.specs.Prelude.{◌≡◌, ◌≤◌, ℕ, length, false, No
 ghost use Rattle.std.specs.List.{AllByRecursion};
 ghost use Rattle.ix_model.specs.declared.grammar.Grammar.{Grammar};
 ghost use Rattle.ix_model.specs.declared.grammar.Term.{One};
-ghost use Rattle.ix_model.specs.Codes.{characters};
-ghost use Rattle.ix_model.specs.Factors.{codes_of_chars};
-ghost use Rattle.ix_model.specs.Plain.{IsPlain, ArePlain};
-ghost use Rattle.ix_model.specs.Terminals.{Matches, StandsAt};
+ghost use Rattle.ix_model.specs.Matching.Codes.{characters};
+ghost use Rattle.ix_model.specs.Grammars.Factors.{codes_of_chars};
+ghost use Rattle.ix_cli.specs.Plain.{IsPlain, ArePlain};
+ghost use Rattle.ix_model.specs.Matching.Terminals.{Matches, StandsAt};
 ghost use Rattle.ix_sets.specs.SetOf.{IsSet};
 ghost use Rattle.ix_cli.specs.Numbers.{AreCharacters, AreOfCharacters, HasCharacters, IsOfCharacters};
 ghost use Rattle.ix_cli.specs.Once.{ArePlainAlts, DeriveText, IsOnlyAlternative};

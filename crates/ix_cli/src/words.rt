@@ -1,5 +1,5 @@
-ghost use Rattle.std.specs.Prelude.{◌≡◌, ℕ, List, None, IfSome, map, string_bytes};
-ghost use Rattle.ix_cli.specs.Form.{HasForm};
+ghost use Rattle.std.specs.Prelude.{◌≡◌, ℕ, List, None, IfSome, map, string_bytes, IsTrue, ◌↔◌};
+ghost use Rattle.ix_cli.specs.Form.{HasForm, IsOperand};
 
 /// The names of the grammar and the text, where the words have the form `parse GRAMMAR TEXT`.
 pub fn operands(words: &[String]) -> Option<(&str, &str)>
@@ -15,8 +15,6 @@ pub fn operands(words: &[String]) -> Option<(&str, &str)>
     }
 }
 
-ghost use Rattle.std.specs.Prelude.{IsTrue, ◌↔◌};
-ghost use Rattle.ix_cli.specs.Form.{IsOperand};
 
 fn is_operand(word: &str) -> bool
     ensures { IsTrue result ↔ IsOperand word.now }

@@ -1,6 +1,6 @@
 -- What holds of each core. It is this project's own.
 use Rattle.std.specs.Prelude.{Contains}
-use Rattle.ix_model.specs.Parts.{Parts}
+use Rattle.ix_model.specs.Expansion.Parts.{Parts}
 use Rattle.ix_cluster.specs.Sound.{AreSound}
 use Rattle.ix_closure.specs.declared.owed.Owed.{Owed}
 use Rattle.ix_closure.specs.Due.{FollowsIn, IsMissing}

@@ -1,7 +1,7 @@
 -- A list of facts that is the closure, with a claim of each descriptor. It is this project's own.
 use Rattle.std.specs.Prelude.{List, Contains}
 use Rattle.std.specs.List.{IsDistinct}
-use Rattle.ix_model.specs.Parts.{Parts}
+use Rattle.ix_model.specs.Expansion.Parts.{Parts}
 use Rattle.ix_cluster.specs.declared.fact.Fact.{Fact}
 use Rattle.ix_cluster.specs.ClosedFacts.{IsInClosed}
 use Rattle.ix_cluster.specs.Facts.{same_fact}

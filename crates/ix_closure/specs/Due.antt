@@ -4,9 +4,9 @@ use Rattle.std.specs.Prelude.{ℕ, List, Contains, Option}
 use Rattle.ix_model.specs.declared.grammar.Mark.{Mark}
 use Rattle.ix_model.specs.declared.rules.Sym.{Sym}
 use Rattle.ix_model.specs.declared.rules.Sym.TheVariants as sym
-use Rattle.ix_model.specs.Parts.{Parts}
-use Rattle.ix_model.specs.FlatDerives.{IsTerminal}
-use Rattle.ix_model.specs.SlotPlaces.{HasNext, IsLast}
+use Rattle.ix_model.specs.Expansion.Parts.{Parts}
+use Rattle.ix_model.specs.Expansion.FlatDerives.{IsTerminal}
+use Rattle.ix_model.specs.Expansion.SlotPlaces.{HasNext, IsLast}
 use Rattle.ix_cluster.specs.declared.fact.Fact.{Fact}
 use Rattle.ix_cluster.specs.declared.fact.Fact.TheVariants as fact
 use Rattle.ix_cluster.specs.Banks.{facts_of}

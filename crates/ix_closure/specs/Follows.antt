@@ -5,9 +5,9 @@ use Rattle.ix_model.specs.declared.grammar.Mark.{Mark}
 use Rattle.ix_model.specs.declared.rules.Sym.{Sym}
 use Rattle.ix_model.specs.declared.rules.Sym.TheVariants as sym
 use Rattle.ix_model.specs.declared.sub.Sub.{Sub}
-use Rattle.ix_model.specs.Parts.{Parts}
-use Rattle.ix_model.specs.FlatDerives.{IsTerminal}
-use Rattle.ix_model.specs.SlotPlaces.{HasNext, IsLast}
+use Rattle.ix_model.specs.Expansion.Parts.{Parts}
+use Rattle.ix_model.specs.Expansion.FlatDerives.{IsTerminal}
+use Rattle.ix_model.specs.Expansion.SlotPlaces.{HasNext, IsLast}
 use Rattle.ix_cluster.specs.declared.answers.Arrived.{Arrived}
 use Rattle.ix_cluster.specs.declared.answers.Arrived.TheVariants.{Fresh, Known}
 use Rattle.ix_cluster.specs.declared.answers.Claimed.{Claimed}

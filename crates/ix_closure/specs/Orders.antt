@@ -1,6 +1,6 @@
 -- What holds whatever owed step is done next. It is this project's own.
 use Rattle.std.specs.Prelude.{ℕ, ◌≤◌, List, length}
-use Rattle.ix_model.specs.Parts.{Parts}
+use Rattle.ix_model.specs.Expansion.Parts.{Parts}
 use Rattle.ix_cluster.specs.declared.fact.Fact.{Fact}
 use Rattle.ix_cluster.specs.Banks.{facts_of}
 use Rattle.ix_closure.specs.Closure.{IsClosure}

@@ -1,8 +1,8 @@
 -- How often steps are owed, and how many steps facts can bring. It is this project's own.
 use Rattle.std.specs.Prelude.{ℕ, ◌+◌, ◌*◌, Bool, false, ◌&&◌, ◌==◌, List}
 use Rattle.std.specs.List.{count_by}
-use Rattle.ix_model.specs.Parts.{Parts}
-use Rattle.ix_model.specs.Slots.{info_at}
+use Rattle.ix_model.specs.Expansion.Parts.{Parts}
+use Rattle.ix_model.specs.Expansion.Slots.{info_at}
 use Rattle.ix_cluster.specs.declared.fact.Fact.{Fact}
 use Rattle.ix_cluster.specs.declared.fact.Fact.TheVariants as fact
 use Rattle.ix_cluster.specs.Banks.{is_descriptor}

@@ -3,8 +3,8 @@ use Rattle.std.specs.Prelude.{◌≡◌, ℕ, ◌<◌, ◌≤◌, List, ◌++◌
 use Rattle.std.specs.List.{All}
 use Rattle.ix_model.specs.declared.grammar.Mark.{Mark}
 use Rattle.ix_model.specs.declared.rules.Sym.TheVariants as sym
-use Rattle.ix_model.specs.Parts.{Parts}
-use Rattle.ix_model.specs.Slots.{sym_after}
+use Rattle.ix_model.specs.Expansion.Parts.{Parts}
+use Rattle.ix_model.specs.Expansion.Slots.{sym_after}
 use Rattle.ix_cluster.specs.declared.cluster.Edge.{Edge as Arc}
 use Rattle.ix_cluster.specs.declared.fact.Fact.{Fact}
 use Rattle.ix_cluster.specs.Steps.{end_answer}

@@ -1,6 +1,6 @@
 -- Steps in any order. It is this project's own.
 use Rattle.std.specs.Prelude.{◌≡◌, ℕ, List, [], ◌∷◌, ◌++◌}
-use Rattle.ix_model.specs.Parts.{Parts}
+use Rattle.ix_model.specs.Expansion.Parts.{Parts}
 use Rattle.ix_closure.specs.Events.{Event}
 use Rattle.ix_closure.specs.Seen.{State}
 

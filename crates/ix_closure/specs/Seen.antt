@@ -1,6 +1,6 @@
 -- What contracts see of a core. It is this project's own.
 use Rattle.std.specs.Prelude.{List}
-use Rattle.ix_model.specs.Parts.{Parts}
+use Rattle.ix_model.specs.Expansion.Parts.{Parts}
 use Rattle.ix_cluster.specs.Seen.{Bank}
 use Rattle.ix_closure.specs.declared.owed.Owed.{Owed}
 

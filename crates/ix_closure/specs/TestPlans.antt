@@ -5,7 +5,7 @@ use Rattle.ix_model.specs.declared.plan.SlotInfo.{SlotInfo}
 use Rattle.ix_model.specs.declared.rules.Kind.TheVariants.{Named}
 use Rattle.ix_model.specs.declared.rules.Line.{Line}
 use Rattle.ix_model.specs.declared.rules.Terminal.TheVariants.{Lit}
-use Rattle.ix_model.specs.Parts.{Parts}
+use Rattle.ix_model.specs.Expansion.Parts.{Parts}
 
 -- one rule E of these alternatives, with the literals "1" and "+"
 abbrev pub one_rule : List Line → List SlotInfo → List ℕ → Parts

@@ -1,8 +1,8 @@
 -- What holds of each state that is reached from the opening. It is this project's own.
 use Rattle.std.specs.Prelude.{◌≡◌, ◌⊎◌, ◌≤◌, ℕ, Contains}
 use Rattle.ix_model.specs.declared.sub.Sub.{Sub}
-use Rattle.ix_model.specs.Parts.{Parts}
-use Rattle.ix_model.specs.SlotPlaces.{IsFirst, IsLast}
+use Rattle.ix_model.specs.Expansion.Parts.{Parts}
+use Rattle.ix_model.specs.Expansion.SlotPlaces.{IsFirst, IsLast}
 use Rattle.ix_cluster.specs.declared.fact.Fact.TheVariants as fact
 use Rattle.ix_cluster.specs.Banks.{facts_of}
 use Rattle.ix_closure.specs.declared.owed.Owed.{Owed}

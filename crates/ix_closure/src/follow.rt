@@ -2,7 +2,7 @@
 ghost use Rattle.std.specs.Prelude.{◌≡◌, ◌<◌, ◌≤◌, ◌+◌, ◌++◌, [], length, map, if◌then◌else◌};
 ghost use Rattle.std.specs.List.{All};
 ghost use Rattle.std.specs.Vec.{vec_len, vec_capacity};
-ghost use Rattle.ix_model.specs.Numbered.{lines_at};
+ghost use Rattle.ix_model.specs.Expansion.Numbered.{lines_at};
 ghost use Rattle.ix_cluster.specs.declared.cluster.Edge.{Edge as Arc};
 ghost use Rattle.ix_cluster.specs.Firsts.{firsts_of};
 ghost use Rattle.ix_closure.specs.Follows.{claims_at, arrival};

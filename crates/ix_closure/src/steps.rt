@@ -4,7 +4,7 @@ ghost use Rattle.std.specs.List.{All, cons_option};
 ghost use Rattle.std.specs.Vec.{vec_len, vec_capacity};
 ghost use Rattle.ix_model.specs.declared.grammar.Mark.{Mark};
 ghost use Rattle.ix_model.specs.declared.rules.Sym.TheVariants as sym;
-ghost use Rattle.ix_model.specs.Slots.{sym_after};
+ghost use Rattle.ix_model.specs.Expansion.Slots.{sym_after};
 ghost use Rattle.ix_cluster.specs.declared.cluster.Edge.{Edge as Arc};
 ghost use Rattle.ix_cluster.specs.Room.{unclaimed_in};
 ghost use Rattle.ix_cluster.specs.Steps.{after_arrival, arrival_answer};

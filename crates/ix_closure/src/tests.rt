@@ -1,8 +1,8 @@
 ghost use Rattle.std.specs.Prelude.{◌≡◌, IfOk};
-ghost use Rattle.ix_model.specs.Expanded.{line as a_line};
-ghost use Rattle.ix_model.specs.Numbering.{slot};
-ghost use Rattle.ix_model.specs.Planned.{IsPlanned};
-ghost use Rattle.ix_model.specs.ExamplePlans.{literal};
+ghost use Rattle.ix_model.specs.Expansion.Expanded.{line as a_line};
+ghost use Rattle.ix_model.specs.Expansion.Numbering.{slot};
+ghost use Rattle.ix_model.specs.Expansion.Planned.{IsPlanned};
+ghost use Rattle.ix_examples.specs.SmallPlans.{literal};
 ghost use Rattle.ix_closure.specs.TestPlans.{one_rule};
 
 use crate::{Core, Owed};

@@ -9,16 +9,16 @@ use Rattle.std.proofs.lemmas.List.Elements.{Contains-get_or}
 use Rattle.std.proofs.lemmas.Option.{slice_get_within}
 use Rattle.ix_model.specs.declared.rules.Line.{Line}
 use Rattle.ix_model.specs.declared.rules.Sym.{Sym}
-use Rattle.ix_model.specs.Parts.{Parts}
-use Rattle.ix_model.specs.Numbered.{lines_at}
-use Rattle.ix_model.specs.FlatDerives.{IsLine}
-use Rattle.ix_model.specs.SlotPlaces.{IsFirst, IsLast}
+use Rattle.ix_model.specs.Expansion.Parts.{Parts}
+use Rattle.ix_model.specs.Expansion.Numbered.{lines_at}
+use Rattle.ix_model.specs.Expansion.FlatDerives.{IsLine}
+use Rattle.ix_model.specs.Expansion.SlotPlaces.{IsFirst, IsLast}
 use Rattle.ix_model.proofs.Readers.{has_line, lines_is}
 use Rattle.ix_model.proofs.SlotPlaces.{slot_for}
 use Rattle.ix_model.proofs.SlotReaders.{first_reads, last_reads, reads_last}
-use Rattle.ix_model.specs.Planned.{IsPlanned}
-use Rattle.ix_model.specs.Numbering.{slot, is_before}
-use Rattle.ix_model.specs.Slots.{IsSlot, info_at, sym_after}
+use Rattle.ix_model.specs.Expansion.Planned.{IsPlanned}
+use Rattle.ix_model.specs.Expansion.Numbering.{slot, is_before}
+use Rattle.ix_model.specs.Expansion.Slots.{IsSlot, info_at, sym_after}
 use Rattle.ix_model.proofs.Slots.{order, before_start, start_itself}
 use Rattle.ix_cluster.specs.declared.fact.Fact.{Fact}
 use Rattle.ix_cluster.specs.Firsts.{first_slot, firsts_of, is_at_end}

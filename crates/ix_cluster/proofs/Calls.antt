@@ -1,6 +1,6 @@
 -- What a log has after a rule is called.
 use Rattle.std.proofs.Common.{◌≡◌, ℕ, Contains, Bool, true, false, cond, List, [], ◌∷◌, refl, sym, ap, ◌∙◌, subst, ◌⊎◌, inl, inr}
-use Rattle.ix_model.specs.Parts.{Parts}
+use Rattle.ix_model.specs.Expansion.Parts.{Parts}
 use Rattle.ix_cluster.specs.declared.fact.Fact.{Fact}
 use Rattle.ix_cluster.specs.declared.fact.Fact.TheVariants.{Called, Desc, Part}
 use Rattle.ix_cluster.specs.Facts.{has, put}

@@ -5,7 +5,7 @@ use Rattle.std.specs.declared.vec.Vec.{Vec}
 use Rattle.std.proofs.lemmas.List.{append-nil}
 use Rattle.std.proofs.lemmas.List.Elements.{filter_map-append}
 use Rattle.indexmap.specs.IndexMap.{IndexMap}
-use Rattle.ix_model.specs.Parts.{Parts}
+use Rattle.ix_model.specs.Expansion.Parts.{Parts}
 use Rattle.ix_cluster.specs.declared.cluster.Cluster.{Cluster}
 use Rattle.ix_cluster.specs.declared.cluster.Edge.{Edge as Arc}
 use Rattle.ix_model.specs.declared.sub.Sub.{Sub}

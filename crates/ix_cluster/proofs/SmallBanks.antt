@@ -1,9 +1,9 @@
 -- The bank of `S: S; "a".` at the start, of which the worked examples speak.
 use Rattle.std.proofs.Common.{rules, [], ◌∷◌, refl}
-use Rattle.ix_model.specs.Planned.{IsPlanned}
-use Rattle.ix_model.specs.SlotPlaces.{IsFirst}
-use Rattle.ix_model.specs.Expanded.{line}
-use Rattle.ix_model.specs.ExamplePlans.{cycle, named, call, literal}
+use Rattle.ix_model.specs.Expansion.Planned.{IsPlanned}
+use Rattle.ix_model.specs.Expansion.SlotPlaces.{IsFirst}
+use Rattle.ix_model.specs.Expansion.Expanded.{line}
+use Rattle.ix_examples.specs.SmallPlans.{cycle, named, call, literal}
 use Rattle.ix_cluster.specs.Banks.{opening_bank}
 use Rattle.ix_cluster.specs.Sound.{IsSound}
 use Rattle.ix_cluster.proofs.Soundness.{sound-begin}

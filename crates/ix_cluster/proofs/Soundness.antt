@@ -6,11 +6,11 @@ use Rattle.std.proofs.lemmas.List.Elements.{Contains-push_cases}
 use Rattle.std.proofs.lemmas.Map.Keys.{IsDistinct-push}
 use Rattle.std.proofs.lemmas.Option.{slice_get_within}
 use Rattle.ix_model.specs.declared.sub.Sub.{Sub}
-use Rattle.ix_model.specs.Parts.{Parts}
-use Rattle.ix_model.specs.Planned.{IsPlanned}
-use Rattle.ix_model.specs.Slots.{info_at}
-use Rattle.ix_model.specs.SlotPlaces.{IsFirst, IsLast}
-use Rattle.ix_model.specs.Closed as closed
+use Rattle.ix_model.specs.Expansion.Parts.{Parts}
+use Rattle.ix_model.specs.Expansion.Planned.{IsPlanned}
+use Rattle.ix_model.specs.Expansion.Slots.{info_at}
+use Rattle.ix_model.specs.Expansion.SlotPlaces.{IsFirst, IsLast}
+use Rattle.ix_model.specs.Closure.Closed as closed
 use Rattle.ix_model.proofs.Numbers.{get_split}
 use Rattle.ix_model.proofs.SlotReaders.{first_reads}
 use Rattle.ix_cluster.specs.declared.cluster.Edge.{Edge as Arc}

@@ -1,6 +1,6 @@
 -- Facts of a bank as facts of the closure. It is this project's own.
-use Rattle.ix_model.specs.Parts.{Parts}
-use Rattle.ix_model.specs.Closed as closed
+use Rattle.ix_model.specs.Expansion.Parts.{Parts}
+use Rattle.ix_model.specs.Closure.Closed as closed
 use Rattle.ix_cluster.specs.declared.fact.Fact.{Fact}
 use Rattle.ix_cluster.specs.declared.fact.Fact.TheVariants.{Called, Edge, End, Desc, Part, Claim}
 

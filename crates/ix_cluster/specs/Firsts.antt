@@ -1,10 +1,10 @@
 -- The first slots of a rule's alternatives. It is this project's own.
 use Rattle.std.specs.Prelude.{ℕ, Bool, List, length, map, is_none}
 use Rattle.std.specs.List.{prefix_len, range_with_len}
-use Rattle.ix_model.specs.Parts.{Parts}
-use Rattle.ix_model.specs.Numbered.{lines_at}
-use Rattle.ix_model.specs.Numbering.{is_before}
-use Rattle.ix_model.specs.Slots.{sym_after}
+use Rattle.ix_model.specs.Expansion.Parts.{Parts}
+use Rattle.ix_model.specs.Expansion.Numbered.{lines_at}
+use Rattle.ix_model.specs.Expansion.Numbering.{is_before}
+use Rattle.ix_model.specs.Expansion.Slots.{sym_after}
 
 -- the number of the first slot of alternative a of rule r: so many slots are of alternatives before it
 abbrev pub first_slot : Parts → ℕ → ℕ → ℕ

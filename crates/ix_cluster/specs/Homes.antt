@@ -1,7 +1,7 @@
 -- The bank that a fact belongs to. It is this project's own.
 use Rattle.std.specs.Prelude.{ℕ, ◌+◌, ◌%◌}
-use Rattle.ix_model.specs.Parts.{Parts}
-use Rattle.ix_model.specs.Slots.{info_at}
+use Rattle.ix_model.specs.Expansion.Parts.{Parts}
+use Rattle.ix_model.specs.Expansion.Slots.{info_at}
 use Rattle.ix_cluster.specs.declared.fact.Fact.{Fact}
 use Rattle.ix_cluster.specs.declared.fact.Fact.TheVariants.{Called, Edge, End, Desc, Part, Claim}
 

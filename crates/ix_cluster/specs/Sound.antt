@@ -2,8 +2,8 @@
 use Rattle.std.specs.Prelude.{◌≡◌, ℕ, ◌+◌, ◌<◌, ◌≤◌, ◌^◌, List, length, Contains, Some, slice_get, take}
 use Rattle.std.specs.List.{IsDistinct}
 use Rattle.ix_model.specs.declared.sub.Sub.{Sub}
-use Rattle.ix_model.specs.Parts.{Parts}
-use Rattle.ix_model.specs.SlotPlaces.{IsFirst, IsLast}
+use Rattle.ix_model.specs.Expansion.Parts.{Parts}
+use Rattle.ix_model.specs.Expansion.SlotPlaces.{IsFirst, IsLast}
 use Rattle.ix_cluster.specs.declared.fact.Fact.{Fact}
 use Rattle.ix_cluster.specs.declared.fact.Fact.TheVariants.{Called, Edge, Desc, Part, Claim}
 use Rattle.ix_cluster.specs.ClosedFacts.{IsInClosed}

@@ -3,9 +3,9 @@ ghost use Rattle.std.specs.Prelude.{◌≡◌, ℕ, ◌<◌, ◌≤◌, ◌+◌,
 ghost use Rattle.std.specs.List.{IsDistinct};
 ghost use Rattle.ix_model.specs.declared.grammar.Mark.{Mark};
 ghost use Rattle.ix_model.specs.declared.rules.Sym.TheVariants as sym;
-ghost use Rattle.ix_model.specs.Numbered.{lines_at};
-ghost use Rattle.ix_model.specs.Parts.{Parts};
-ghost use Rattle.ix_model.specs.Slots.{sym_after};
+ghost use Rattle.ix_model.specs.Expansion.Numbered.{lines_at};
+ghost use Rattle.ix_model.specs.Expansion.Parts.{Parts};
+ghost use Rattle.ix_model.specs.Expansion.Slots.{sym_after};
 ghost use Rattle.ix_cluster.specs.declared.fact.Fact.TheVariants as fact;
 ghost use Rattle.ix_cluster.specs.Facts.{same_fact, has, put};
 ghost use Rattle.ix_cluster.specs.Firsts.{firsts_of};

@@ -1,7 +1,7 @@
 //! Laws and worked examples of the definitions. Each function's contract is the law or the example; the bodies are empty.
 ghost use Rattle.std.specs.Prelude.{◌≡◌, ◌≢◌, ℕ, [], ◌∷◌, true, false, codes, Some, None, Contains};
 ghost use Rattle.std.specs.List.{count_by, filter_map, fold};
-ghost use Rattle.ix_model.specs.ExamplePlans.{cycle, nothing};
+ghost use Rattle.ix_examples.specs.SmallPlans.{cycle, nothing};
 ghost use Rattle.ix_cluster.specs.declared.answers.Arrived.TheVariants as arrived;
 ghost use Rattle.ix_cluster.specs.declared.answers.Claimed.TheVariants as claimed;
 ghost use Rattle.ix_cluster.specs.declared.fact.Fact.TheVariants.{Called, Edge, End, Desc, Part, Claim};

@@ -1,5 +1,5 @@
 ghost use Rattle.std.specs.Prelude.{◌≡◌, [], ◌∷◌, IfOk, codes};
-ghost use Rattle.ix_model.specs.ExamplePlans.{cycle};
+ghost use Rattle.ix_examples.specs.SmallPlans.{cycle};
 
 use crate::{Arrived, Bank, Banks, Claimed, Edge, Fact, home};
 use ix_model::{Flat, Kind, Line, Mark, Plan, Rules, SlotInfo, Sub, Sym, Terminal, Text};

@@ -1,9 +1,9 @@
 -- How many characters bytes have.
-use Rattle.std.proofs.Common.{◌≡◌, refl, ap, subst, ℕ, Bool, true, false, cond, ◌≤◌, List, [], ◌∷◌, length, IsUtf8, arith}
+use Rattle.std.proofs.Common.{ap, ℕ, true, false, cond, ◌≤◌, List, [], ◌∷◌, length, IsUtf8, arith}
 use Rattle.std.specs.Prelude.{◌==◌}
 use Rattle.std.specs.Str.{chars}
 use Rattle.std.proofs.lemmas.Str.{encodes-chars, length-le-encodes}
-use Rattle.ix_model.specs.Decoding.{without_mark, decoded}
+use Rattle.ix_model.specs.Answers.Decoding.{without_mark, decoded}
 
 length-without_mark : (cs : List ℕ) → length (without_mark cs) ≤ length cs
 length-without_mark [] = omega arith

@@ -1,7 +1,7 @@
 //! Worked examples of what counts, files and sinks are said to do, each proved: what holds, and beside it what does not.
 ghost use Rattle.std.specs.Prelude.{◌≡◌, ◌-◌, ◌^◌, ℕ, [], ◌∷◌, Some, None, Ok, Err, Vec, codes};
 ghost use Rattle.std.specs.declared.alloc.Global.{Global};
-ghost use Rattle.ix_model.specs.Decoding.{decoded};
+ghost use Rattle.ix_model.specs.Answers.Decoding.{decoded};
 ghost use Rattle.ix_edge.specs.declared.fault.Failed.{Failed};
 ghost use Rattle.ix_edge.specs.declared.fault.LoadFault.{LoadFault};
 ghost use Rattle.ix_edge.specs.Causes.{Rose};

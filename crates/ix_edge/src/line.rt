@@ -1,5 +1,5 @@
 ghost use Rattle.std.specs.Prelude.{◌≡◌, ◌-◌, ◌^◌, ◌<◌, ◌≤◌, length};
-ghost use Rattle.ix_model.specs.Places.{line_of, column_of};
+ghost use Rattle.ix_model.specs.Answers.Places.{line_of, column_of};
 
 use crate::Place;
 

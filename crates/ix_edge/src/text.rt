@@ -1,7 +1,7 @@
 ghost use Rattle.std.specs.Prelude.{◌≡◌, ◌≤◌, ℕ, length, IfOk, IsUtf8, Err};
 ghost use Rattle.std.specs.Str.{chars};
 ghost use Rattle.std.specs.Str.Lossy.{utf8_valid_len};
-ghost use Rattle.ix_model.specs.Decoding.{decoded};
+ghost use Rattle.ix_model.specs.Answers.Decoding.{decoded};
 
 use crate::TextFault;
 use std::alloc::{AllocError, Global};

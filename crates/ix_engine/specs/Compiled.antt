@@ -1,8 +1,8 @@
 -- What the bytes of a file are as a grammar, and why they are none.
 use Rattle.std.specs.Prelude.{ℕ, List}
-use Rattle.ix_model.specs.Answer.{GrammarRefused}
-use Rattle.ix_model.specs.Breach.{version, code_point, range, class, undefined, duplicate}
-use Rattle.ix_model.specs.Outcome.{Outcome, no_form, grammar_too_long, grammar_not_utf8, no_grammar, too_deep, not_conforming}
+use Rattle.ix_model.specs.Answers.Answer.{GrammarRefused}
+use Rattle.ix_model.specs.Grammars.Breach.{version, code_point, range, class, undefined, duplicate}
+use Rattle.ix_model.specs.Answers.Outcome.{Outcome, no_form, grammar_too_long, grammar_not_utf8, no_grammar, too_deep, not_conforming}
 use Rattle.ix_engine.specs.declared.refusal.Refusal.{Refusal}
 use Rattle.ix_engine.specs.declared.refusal.Refusal.TheVariants as refusal
 

@@ -1,7 +1,7 @@
 ghost use Rattle.std.specs.Prelude.{◌≤◌, IfOk, IfErr};
-ghost use Rattle.ix_model.specs.Answer.{HoldsConforming};
-ghost use Rattle.ix_model.specs.Breach.{Conforming};
-ghost use Rattle.ix_model.specs.Size.{size};
+ghost use Rattle.ix_model.specs.Answers.Answer.{HoldsConforming};
+ghost use Rattle.ix_model.specs.Grammars.Breach.{Conforming};
+ghost use Rattle.ix_model.specs.Grammars.Size.{size};
 ghost use Rattle.ix_engine.specs.Compiled.{IsRefused};
 
 use crate::refusal::Refusal;
@@ -18,7 +18,7 @@ const MOST: usize = 1_048_576;
 /// The first that applies is refused, in this order: `FileTooLong`, `NotUtf8`, `NotIxml`, `TooDeep`, and then the least
 /// of the codes G02 to G07 that holds, with its first item. Each comes exactly where it applies and none before it does.
 /// `Memory` may come anywhere.
-#[tactic(auto, using(ix_model::proofs::SpelledNumbers::spelled_hex))]
+#[tactic(auto, using(ix_conformance_laws::proofs::SpelledNumbers::spelled_hex))]
 pub fn compile(alloc: Global, bytes: &[u8]) -> Result<Grammar, Refusal>
     ensures ok { IfOk result (HoldsConforming bytes.now) }
     ensures conforming { IfOk result (λ g. Conforming g) }

@@ -1,19 +1,11 @@
 -- Mentions added one after the other.
-use Rattle.std.proofs.Common.{◌≡◌, refl, ap, sym, ◌∙◌, subst, ℕ, ◌+◌, ◌<◌, List, [], ◌∷◌, ◌++◌, length, get_or, take, Option, append_assoc, append-nil}
-use Rattle.std.specs.Prelude.{Bool, option_map}
+use Rattle.std.proofs.Common.{◌≡◌, refl, ap, sym, ◌∙◌, subst, ℕ, ◌+◌, ◌<◌, List, [], ◌∷◌, ◌++◌, length, get_or, take, append_assoc, append-nil}
 use Rattle.std.specs.List.{flat_map}
 use Rattle.std.proofs.lemmas.Grind.{flat_map-append}
 use Rattle.std.proofs.lemmas.List.{take_more}
-use Rattle.std.proofs.lemmas.List.Folds.{flat_map-map}
-use Rattle.ix_model.specs.declared.grammar.Mark.{Mark}
-use Rattle.ix_model.specs.declared.grammar.TMark.{TMark}
-use Rattle.ix_model.specs.declared.grammar.Chars.{Chars}
 use Rattle.ix_model.specs.declared.grammar.Member.{Member}
-use Rattle.ix_model.specs.declared.grammar.Alt.{Alt}
-use Rattle.ix_model.specs.declared.grammar.Term.{One, Opt, Star, Plus}
-use Rattle.ix_model.specs.declared.grammar.Factor.{Factor, Lit, Set, Call, Insert, Group}
-use Rattle.ix_model.specs.Factors.{factor_step, term_step, alt_step, of_separator, factors_of_factor, factors_of_term, factors_of_alt, codes_of_member, ranges_of_member, classes_of_member, codes_of_factor, ranges_of_factor, classes_of_factor, calls_of_factor}
-use Rattle.ix_model.proofs.Folds.{fold_lit, fold_set, fold_call, fold_insert, fold_group, fold_one, fold_opt, fold_star, fold_plus, fold_alt}
+use Rattle.ix_model.specs.declared.grammar.Factor.{Factor}
+use Rattle.ix_model.specs.Grammars.Factors.{codes_of_member, ranges_of_member, classes_of_member, codes_of_factor, ranges_of_factor, classes_of_factor, calls_of_factor}
 use Rattle.ix_errors.specs.declared.mention.Mention.{Mention}
 use Rattle.ix_errors.specs.Mentions.{code_in, range_in, class_in, call_in, Adds, AddsMembers, AddsFactors}
 

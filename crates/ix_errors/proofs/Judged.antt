@@ -3,12 +3,11 @@ use Rattle.std.proofs.Common.{◌≡◌, refl, ap, sym, ◌∙◌, subst, ℕ, �
 use Rattle.std.specs.Prelude.{IfSome, Result, Ok, Err, OnOk, IfOk, IfErr}
 use Rattle.std.specs.List.{AllByRecursion, flat_map}
 use Rattle.ix_model.specs.declared.grammar.Grammar.{Grammar}
-use Rattle.ix_model.specs.Laws.{HasUniqueNames}
-use Rattle.ix_model.specs.Names.{names_of}
-use Rattle.ix_model.specs.Factors.{codes_of, ranges_of, classes_of, calls_of}
-use Rattle.ix_model.specs.Breach as of
-use Rattle.ix_model.specs.Breach.{Fault, code_point, class, undefined, duplicate, code_number, IsFirstNot, IsCodePoint, IsRising, IsKnownClass, IsDefined, IsRepeated, LeastBreach}
-use Rattle.ix_model.proofs.Judging.{above_version, above_codes, above_ranges, above_classes, above_calls, unrefused, unique_where_none_repeats}
+use Rattle.ix_model.specs.Grammars.Names.{HasUniqueNames, names_of}
+use Rattle.ix_model.specs.Grammars.Factors.{codes_of, ranges_of, classes_of, calls_of}
+use Rattle.ix_model.specs.Grammars.Breach as of
+use Rattle.ix_model.specs.Grammars.Breach.{Fault, code_point, class, undefined, duplicate, code_number, IsFirstNot, IsCodePoint, IsRising, IsKnownClass, IsDefined, IsRepeated, LeastBreach}
+use Rattle.ix_conformance_laws.proofs.Judging.{above_version, above_codes, above_ranges, above_classes, above_calls, unrefused, unique_where_none_repeats}
 use Rattle.ix_model.proofs.FirstNames.{named_at, name_at}
 use Rattle.ix_errors.specs.declared.breach.Breach.{Breach}
 use Rattle.ix_errors.specs.Breaches.{fault_of, IsLeast, IsOfCode, NamesFirst, NamesRepeated, falling}

@@ -6,8 +6,8 @@ use Rattle.std.proofs.lemmas.Slice.Eq.{bytes_eq-Decides}
 use Rattle.std.proofs.lemmas.Bool.Decides.{nat_tests}
 use Rattle.ucd_category.specs.declared.GeneralCategory.{GeneralCategory}
 use Rattle.ucd_category.specs.declared.GeneralCategory.TheVariants as category
-use Rattle.ix_model.specs.Classes.{code_of, is_code_in_class}
-use Rattle.ix_model.specs.Breach.{IsKnownClass}
+use Rattle.ix_model.specs.Matching.Classes.{code_of, is_code_in_class}
+use Rattle.ix_model.specs.Grammars.Breach.{IsKnownClass}
 use Rattle.ix_errors.specs.KnownClasses.{second_letters}
 
 -- whether no letter follows

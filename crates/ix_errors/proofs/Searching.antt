@@ -7,8 +7,8 @@ use Rattle.std.proofs.lemmas.List.{take_more, take_all}
 use Rattle.std.specs.Option.{option_map}
 use Rattle.std.proofs.lemmas.Option.{slice_get_within, slice_get-map, slice_get-get_or}
 use Rattle.ix_model.specs.declared.grammar.Rule.{Rule}
-use Rattle.ix_model.specs.Names.{names_of}
-use Rattle.ix_model.specs.Breach.{IsFirstNot}
+use Rattle.ix_model.specs.Grammars.Names.{names_of}
+use Rattle.ix_model.specs.Grammars.Breach.{IsFirstNot}
 use Rattle.ix_errors.specs.Firsts.{IsSearchFor, IsRepeatedAt, NoneRepeatedBelow, IsSearchForRepeated}
 
 module _ {X : Type 0} (P : X → Type 0) where

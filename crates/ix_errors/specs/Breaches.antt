@@ -2,8 +2,8 @@
 -- Source: this project's own; the codes are those of ix_model.
 use Rattle.std.specs.Prelude.{◌≡◌, ℕ, List, Option, Some, None, IfSome}
 use Rattle.ix_model.specs.declared.grammar.Grammar.{Grammar}
-use Rattle.ix_model.specs.Breach as of
-use Rattle.ix_model.specs.Breach.{Fault, code_number, IsFirstNot, LeastBreach}
+use Rattle.ix_model.specs.Grammars.Breach as of
+use Rattle.ix_model.specs.Grammars.Breach.{Fault, code_number, IsFirstNot, LeastBreach}
 use Rattle.ix_errors.specs.Firsts.{IsSearchForRepeated}
 use Rattle.ix_errors.specs.declared.breach.Breach.{Breach}
 use Rattle.ix_errors.specs.declared.breach.Breach.TheVariants.{Version, CodePoint, Range, Class, Undefined, Duplicate, Memory}

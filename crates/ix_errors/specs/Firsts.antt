@@ -2,7 +2,7 @@
 -- Source: this project's own.
 use Rattle.std.specs.Prelude.{◌≡◌, ◌<◌, ℕ, List, Option, Some, None, slice_get}
 use Rattle.std.specs.List.{AllByRecursion}
-use Rattle.ix_model.specs.Breach.{IsFirstNot}
+use Rattle.ix_model.specs.Grammars.Breach.{IsFirstNot}
 
 -- some x is the first of the list that P does not hold of, and none comes where P holds of all
 abbrev pub IsSearchFor : {X : Type 0} → (X → Type 0) → List X → Option X → Type 0

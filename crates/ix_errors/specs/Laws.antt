@@ -6,8 +6,8 @@ use Rattle.ix_model.specs.declared.grammar.Term.{One}
 use Rattle.ix_model.specs.declared.grammar.Member.TheVariants as member
 use Rattle.ix_model.specs.declared.grammar.Bound.TheVariants as bound
 use Rattle.ix_model.specs.declared.grammar.Factor.{Set}
-use Rattle.ix_model.specs.Breach.{Fault, LeastBreach}
-use Rattle.ix_model.specs.ExampleGrammars.{alternative, rule, grammar, call}
+use Rattle.ix_model.specs.Grammars.Breach.{Fault, LeastBreach}
+use Rattle.ix_examples.specs.SmallGrammars.{alternative, rule, grammar, call}
 use Rattle.ix_errors.specs.declared.breach.Breach.{Breach}
 use Rattle.ix_errors.specs.declared.mention.Mention.{Mention}
 use Rattle.ix_errors.specs.declared.mention.Mention.TheVariants.{Range, Class, Call}

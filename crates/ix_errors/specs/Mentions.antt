@@ -5,8 +5,8 @@ use Rattle.std.specs.List.{flat_map}
 use Rattle.ix_model.specs.declared.grammar.Grammar.{Grammar}
 use Rattle.ix_model.specs.declared.grammar.Member.{Member}
 use Rattle.ix_model.specs.declared.grammar.Factor.{Factor}
-use Rattle.ix_model.specs.Codes.{bound_value}
-use Rattle.ix_model.specs.Factors.{codes_of_bound, codes_of_member, ranges_of_member, classes_of_member, codes_of_factor, ranges_of_factor, classes_of_factor, calls_of_factor, factors_of}
+use Rattle.ix_model.specs.Matching.Codes.{bound_value}
+use Rattle.ix_model.specs.Grammars.Factors.{codes_of_bound, codes_of_member, ranges_of_member, classes_of_member, codes_of_factor, ranges_of_factor, classes_of_factor, calls_of_factor, factors_of}
 use Rattle.ix_errors.specs.declared.mention.Mention.{Mention}
 use Rattle.ix_errors.specs.declared.mention.Mention.TheVariants.{Code, Range, Class, Call}
 

@@ -3,7 +3,7 @@
 ghost use Rattle.std.specs.Prelude.{IfErr, OnOk};
 ghost use Rattle.std.specs.List.{AllByRecursion, flat_map};
 ghost use Rattle.std.specs.Option.{option_copied};
-ghost use Rattle.ix_model.specs.Breach.{undefined};
+ghost use Rattle.ix_model.specs.Grammars.Breach.{undefined};
 ghost use Rattle.ix_errors.specs.Breaches.{NamesFirst};
 ghost use Rattle.ix_errors.specs.Firsts.{IsAmong, IsSearchFor};
 ghost use Rattle.ix_errors.specs.Mentions.{call_in};

@@ -3,7 +3,7 @@
 ghost use Rattle.std.specs.Prelude.{◌≡◌, ◌↔◌, IsTrue, IfErr, OnOk};
 ghost use Rattle.std.specs.List.{AllByRecursion, flat_map};
 ghost use Rattle.std.specs.Option.{option_copied};
-ghost use Rattle.ix_model.specs.Breach.{IsKnownClass, class};
+ghost use Rattle.ix_model.specs.Grammars.Breach.{IsKnownClass, class};
 ghost use Rattle.ix_errors.specs.Breaches.{NamesFirst};
 ghost use Rattle.ix_errors.specs.Firsts.{IsSearchFor};
 ghost use Rattle.ix_errors.specs.KnownClasses.{second_letters};

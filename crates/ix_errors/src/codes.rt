@@ -3,9 +3,9 @@
 ghost use Rattle.std.specs.Prelude.{[], ◌∷◌, ◌++◌, IfErr, OnOk};
 ghost use Rattle.std.specs.List.{AllByRecursion, flat_map};
 ghost use Rattle.std.specs.Option.{option_copied};
-ghost use Rattle.ix_model.specs.Breach.{IsCodePoint, code_point};
-ghost use Rattle.ix_model.specs.Factors.{codes_of_bound};
-ghost use Rattle.ix_model.specs.Spells.{IsHex};
+ghost use Rattle.ix_model.specs.Grammars.Breach.{IsCodePoint, code_point};
+ghost use Rattle.ix_model.specs.Grammars.Factors.{codes_of_bound};
+ghost use Rattle.ix_model.specs.Spelling.Spells.{IsHex};
 ghost use Rattle.ix_errors.specs.Breaches.{NamesFirst};
 ghost use Rattle.ix_errors.specs.Firsts.{IsSearchFor};
 ghost use Rattle.ix_errors.specs.Mentions.{code_in};

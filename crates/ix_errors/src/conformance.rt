@@ -1,9 +1,9 @@
 ghost use Rattle.std.specs.Prelude.{IfErr, IfOk};
 ghost use Rattle.std.specs.List.{AllByRecursion};
-ghost use Rattle.ix_model.specs.Breach as of;
-ghost use Rattle.ix_model.specs.Breach.{Fault};
-ghost use Rattle.ix_model.specs.Factors.{codes_of};
-ghost use Rattle.ix_model.specs.Spells.{IsHex};
+ghost use Rattle.ix_model.specs.Grammars.Breach as of;
+ghost use Rattle.ix_model.specs.Grammars.Breach.{Fault};
+ghost use Rattle.ix_model.specs.Grammars.Factors.{codes_of};
+ghost use Rattle.ix_model.specs.Spelling.Spells.{IsHex};
 ghost use Rattle.ix_errors.specs.Breaches.{IsLeast};
 
 use crate::breach::Breach;

@@ -1,9 +1,9 @@
 //! A law of errors, and worked examples of this crate's definitions. Each function's contract is the law or the example.
 ghost use Rattle.std.specs.Prelude.{◌≡◌, [], ◌∷◌, Some, None, codes};
-ghost use Rattle.ix_model.specs.Breach.{IsRising};
-ghost use Rattle.ix_model.specs.Breach as of;
-ghost use Rattle.ix_model.specs.ExampleGrammars.{only_a, same_names};
-ghost use Rattle.ix_model.specs.ExampleSpellings.{of_class};
+ghost use Rattle.ix_model.specs.Grammars.Breach.{IsRising};
+ghost use Rattle.ix_model.specs.Grammars.Breach as of;
+ghost use Rattle.ix_examples.specs.SmallGrammars.{only_a, same_names};
+ghost use Rattle.ix_examples.specs.SmallSpellings.{of_class};
 ghost use Rattle.ix_errors.specs.declared.breach.Breach.TheVariants.{Class, Duplicate, Memory, Range};
 ghost use Rattle.ix_errors.specs.Breaches.{fault_of, falling, IsLeast, IsOfCode, NamesFirst, NamesRepeated};
 ghost use Rattle.ix_errors.specs.Firsts.{IsAmong, IsRepeatedAt, IsSearchFor, IsSearchForRepeated, NoneRepeatedBelow};

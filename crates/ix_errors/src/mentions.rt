@@ -2,7 +2,7 @@
 
 ghost use Rattle.std.specs.Prelude.{[], IfOk, OnOk};
 ghost use Rattle.std.specs.List.{flat_map};
-ghost use Rattle.ix_model.specs.Factors.{codes_of_chars, codes_of_member, ranges_of_member, classes_of_member, factors_of_factor, factors_of_term, factors_of_alt};
+ghost use Rattle.ix_model.specs.Grammars.Factors.{codes_of_chars, codes_of_member, ranges_of_member, classes_of_member, factors_of_factor, factors_of_term, factors_of_alt};
 ghost use Rattle.ix_errors.specs.Mentions.{code_in, range_in, class_in, call_in, Adds, AddsMembers, AddsFactors, AreOf};
 
 use crate::mention::Mention;

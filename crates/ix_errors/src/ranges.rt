@@ -2,10 +2,10 @@
 
 ghost use Rattle.std.specs.Prelude.{◌≡◌, IfErr, OnOk};
 ghost use Rattle.std.specs.List.{AllByRecursion, flat_map};
-ghost use Rattle.ix_model.specs.Breach.{IsCodePoint, IsRising};
-ghost use Rattle.ix_model.specs.Codes.{bound_value};
-ghost use Rattle.ix_model.specs.Factors.{codes_of_bound};
-ghost use Rattle.ix_model.specs.Spells.{IsHex};
+ghost use Rattle.ix_model.specs.Grammars.Breach.{IsCodePoint, IsRising};
+ghost use Rattle.ix_model.specs.Matching.Codes.{bound_value};
+ghost use Rattle.ix_model.specs.Grammars.Factors.{codes_of_bound};
+ghost use Rattle.ix_model.specs.Spelling.Spells.{IsHex};
 ghost use Rattle.ix_errors.specs.Breaches.{NamesFirst, falling};
 ghost use Rattle.ix_errors.specs.Firsts.{IsSearchFor};
 ghost use Rattle.ix_errors.specs.Mentions.{code_in, range_in};

@@ -2,8 +2,8 @@
 
 ghost use Rattle.std.specs.Prelude.{◌≡◌, ◌↔◌, ◌<◌, length, IfErr, IfSome, IsTrue, OnOk, Some, slice_get};
 ghost use Rattle.std.specs.Option.{option_copied};
-ghost use Rattle.ix_model.specs.Breach.{duplicate};
-ghost use Rattle.ix_model.specs.Names.{names_of};
+ghost use Rattle.ix_model.specs.Grammars.Breach.{duplicate};
+ghost use Rattle.ix_model.specs.Grammars.Names.{names_of};
 ghost use Rattle.ix_errors.specs.Breaches.{NamesRepeated};
 ghost use Rattle.ix_errors.specs.Firsts.{IsRepeatedAt, IsSearchForRepeated};
 

@@ -1,7 +1,7 @@
 ghost use Rattle.std.specs.Prelude.{IfOk, IsTrue};
 ghost use Rattle.std.specs.List.{AllByRecursion, flat_map};
-ghost use Rattle.ix_model.specs.Factors.{codes_of, codes_of_bound};
-ghost use Rattle.ix_model.specs.Spells.{IsHex};
+ghost use Rattle.ix_model.specs.Grammars.Factors.{codes_of, codes_of_bound};
+ghost use Rattle.ix_model.specs.Spelling.Spells.{IsHex};
 ghost use Rattle.ix_errors.specs.Mentions.{code_in};
 
 use crate::mention::Mention;

@@ -11,10 +11,10 @@ use Rattle.ix_model.specs.declared.rules.Rules.{Rules}
 use Rattle.ix_model.specs.declared.rules.Sym.{Sym}
 use Rattle.ix_model.specs.declared.rules.Sym.TheVariants as sym
 use Rattle.ix_model.specs.declared.rules.Terminal.TheVariants as terminal
-use Rattle.ix_model.specs.Bare.{is_shown_by}
-use Rattle.ix_model.specs.Codes.{characters}
-use Rattle.ix_model.specs.Expanded as X
-use Rattle.ix_model.specs.Expanded.{Next, FactorBecomes}
+use Rattle.ix_model.specs.Documents.Bare.{is_shown_by}
+use Rattle.ix_model.specs.Matching.Codes.{characters}
+use Rattle.ix_model.specs.Expansion.Expanded as X
+use Rattle.ix_model.specs.Expansion.Expanded.{Next, FactorBecomes}
 use Rattle.ix_sets.specs.SetOf.{IsSetOf}
 use Rattle.ix_expand.specs.declared.made.Made.{Made}
 use Rattle.ix_expand.specs.Growth.{next, with_terminal, with_insert, Makes}

@@ -9,9 +9,9 @@ use Rattle.ix_model.specs.declared.rules.Kind.TheVariants.{Named}
 use Rattle.ix_model.specs.declared.rules.Sym.{Sym}
 use Rattle.ix_model.specs.declared.rules.Line.{Line}
 use Rattle.ix_model.specs.declared.rules.Flat.{Flat}
-use Rattle.ix_model.specs.Numbering.{dots_from, alts_from, rules_from, numbering}
-use Rattle.ix_model.specs.Size.{rule_size}
-use Rattle.ix_model.specs.Expanded.{line, next_syms}
+use Rattle.ix_model.specs.Expansion.Numbering.{dots_from, alts_from, rules_from, numbering}
+use Rattle.ix_model.specs.Grammars.Size.{rule_size}
+use Rattle.ix_model.specs.Expansion.Expanded.{line, next_syms}
 use Rattle.ix_expand.specs.declared.made.Made.{Made}
 use Rattle.ix_expand.specs.Growth.{begun, finished, Extends}
 use Rattle.ix_expand.specs.SlotCounts.{sep_symbols, line_slots, lines_slots, flats_slots, slots_of}

@@ -1,10 +1,10 @@
 -- The grammars of the tests conform, and are small.
 use Rattle.std.proofs.Common.{◌≡◌, refl, arith}
-use Rattle.ix_model.specs.Breach.{Conforming}
-use Rattle.ix_model.specs.Size.{size}
+use Rattle.ix_model.specs.Grammars.Breach.{Conforming}
+use Rattle.ix_model.specs.Grammars.Size.{size}
 use Rattle.ix_model.proofs.Folds.{the_folds}
-use Rattle.ix_model.proofs.Judging.{unrefused}
-use Rattle.ix_model.proofs.SmallGrammars.{no_version, unique}
+use Rattle.ix_conformance_laws.proofs.Judging.{unrefused}
+use Rattle.ix_conformance_laws.proofs.ByTests.{no_version, unique}
 use Rattle.ix_expand.specs.Examples.{sample, separated_groups, each_form}
 
 pub sample_conforms : Conforming sample

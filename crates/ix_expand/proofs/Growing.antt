@@ -9,7 +9,7 @@ use Rattle.ix_model.specs.declared.rules.Line.{Line}
 use Rattle.ix_model.specs.declared.rules.Flat.{Flat}
 use Rattle.ix_model.specs.declared.rules.Terminal.{Terminal}
 use Rattle.ix_model.specs.declared.rules.Rules.{Rules}
-use Rattle.ix_model.specs.Expanded.{Next}
+use Rattle.ix_model.specs.Expansion.Expanded.{Next}
 use Rattle.ix_expand.specs.declared.made.Made.{Made}
 use Rattle.ix_expand.specs.Growth.{next, begun, finished, with_terminal, with_insert, HasBehind, Extends, Between, Makes}
 use Rattle.ix_expand.proofs.Places.{get_before, get_last, get_set_same, get_set_other, begins_refl, begins_trans, begins_push, behind_first, behind_last}

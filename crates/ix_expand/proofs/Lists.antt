@@ -6,8 +6,8 @@ use Rattle.ix_model.specs.declared.rules.Kind.TheVariants as kind
 use Rattle.ix_model.specs.declared.rules.Line.{Line}
 use Rattle.ix_model.specs.declared.rules.Sym.{Sym}
 use Rattle.ix_model.specs.declared.rules.Sym.TheVariants as sym
-use Rattle.ix_model.specs.Expanded as X
-use Rattle.ix_model.specs.Expanded.{Next, line, next_syms, FactorBecomes, SeparatorBecomes, RepeatBecomes}
+use Rattle.ix_model.specs.Expansion.Expanded as X
+use Rattle.ix_model.specs.Expansion.Expanded.{Next, line, next_syms, FactorBecomes, SeparatorBecomes, RepeatBecomes}
 use Rattle.ix_expand.specs.declared.made.Made.{Made}
 use Rattle.ix_expand.specs.Growth.{next, begun, finished, Makes}
 use Rattle.ix_expand.proofs.Growing.{Claim, NewHelper, makes_as, helper_made}

@@ -4,10 +4,10 @@ use Rattle.std.specs.Prelude.{slice_get, IsSome, IfSome, IfNone, unwrap_or}
 use Rattle.ix_model.specs.declared.grammar.Grammar.{Grammar}
 use Rattle.ix_model.specs.declared.grammar.Mark.{Mark}
 use Rattle.ix_model.specs.declared.grammar.Mark.TheVariants.{Element}
-use Rattle.ix_model.specs.Bare.{effective}
-use Rattle.ix_model.specs.Breach.{IsDefined}
-use Rattle.ix_model.specs.Names.{names_of, IsFirstAt}
-use Rattle.ix_model.specs.Written.{IsNamed}
+use Rattle.ix_model.specs.Documents.Bare.{effective}
+use Rattle.ix_model.specs.Grammars.Breach.{IsDefined}
+use Rattle.ix_model.specs.Grammars.Names.{names_of, IsFirstAt}
+use Rattle.ix_model.specs.Grammars.Written.{IsNamed}
 use Rattle.ix_model.proofs.FirstNames.{name_at, first_is_named}
 
 module _ (g : Grammar) (name : List ℕ) (names : List (List ℕ)) (named : names ≡ names_of g.rules) where

@@ -11,7 +11,7 @@ use Rattle.ix_model.specs.declared.rules.Flat.{Flat}
 use Rattle.ix_model.specs.declared.rules.Line.{Line}
 use Rattle.ix_model.specs.declared.rules.Rules.{Rules}
 use Rattle.ix_model.specs.declared.rules.Sym.{Sym}
-use Rattle.ix_model.specs.Expanded.{Next, line, HasFlat, TermBecomes, TermsBecome, AltsBecome, RulesBecome, no_term, and_term, no_alt, and_alt, no_rule, and_rule}
+use Rattle.ix_model.specs.Expansion.Expanded.{Next, line, HasFlat, TermBecomes, TermsBecome, AltsBecome, RulesBecome, no_term, and_term, no_alt, and_alt, no_rule, and_rule}
 use Rattle.ix_expand.specs.declared.made.Made.{Made}
 use Rattle.ix_expand.specs.Growth.{next, BeginsWith, Makes}
 use Rattle.ix_expand.proofs.Growing.{makes_both}

@@ -6,14 +6,14 @@ use Rattle.std.proofs.lemmas.List.Folds.{flat_map-map}
 use Rattle.ix_model.specs.declared.grammar.Grammar.{Grammar}
 use Rattle.ix_model.specs.declared.grammar.Term.{Star, Plus}
 use Rattle.ix_model.specs.declared.grammar.Factor.{Factor}
-use Rattle.ix_model.specs.Breach.{IsCodePoint, IsDefined, Conforming}
-use Rattle.ix_model.specs.ConformanceLaws.{IsFaultless}
-use Rattle.ix_model.specs.Spells.{IsHex}
-use Rattle.ix_model.specs.Factors.{factor_step, term_step, alt_step, joined, of_separator, factors_of_factor, factors_of_term, factors_of, codes_of_factor, calls_of_factor}
+use Rattle.ix_model.specs.Grammars.Breach.{IsCodePoint, IsDefined, Conforming}
+use Rattle.ix_conformance_laws.specs.Laws.{IsFaultless}
+use Rattle.ix_model.specs.Spelling.Spells.{IsHex}
+use Rattle.ix_model.specs.Grammars.Factors.{factor_step, term_step, alt_step, joined, of_separator, factors_of_factor, factors_of_term, factors_of, codes_of_factor, calls_of_factor}
 use Rattle.ix_model.proofs.Folds as F
 use Rattle.ix_expand.specs.Sound.{IsSound}
 use Rattle.ix_model.proofs.AllOf.{all_left, all_right, all_parts}
-use Rattle.ix_model.proofs.Judging.{faultless}
+use Rattle.ix_conformance_laws.proofs.Judging.{faultless}
 use Rattle.ix_expand.proofs.Sequences.{drop_item}
 
 module _ {X : Type 0} (P : X → Type 0) where

@@ -7,8 +7,8 @@ use Rattle.ix_model.specs.declared.grammar.Mark.{Mark}
 use Rattle.ix_model.specs.declared.grammar.Rule.{Rule}
 use Rattle.ix_model.specs.declared.rules.Flat.{Flat}
 use Rattle.ix_model.specs.declared.rules.Rules.{Rules}
-use Rattle.ix_model.specs.Bare.{effective}
-use Rattle.ix_model.specs.Expanded.{Next, RulesBecome, Expanded}
+use Rattle.ix_model.specs.Documents.Bare.{effective}
+use Rattle.ix_model.specs.Expansion.Expanded.{Next, RulesBecome, Expanded}
 use Rattle.ix_expand.specs.declared.made.Made.{Made}
 use Rattle.ix_expand.specs.Growth.{next, BeginsWith, Between, Makes}
 use Rattle.ix_expand.proofs.Places.{get_before, get_behind}

@@ -9,7 +9,7 @@ use Rattle.ix_model.specs.declared.grammar.Bound.TheVariants as bound
 use Rattle.ix_model.specs.declared.grammar.Chars.TheVariants.{Code}
 use Rattle.ix_model.specs.declared.grammar.Term.{Term, One, Opt, Star, Plus}
 use Rattle.ix_model.specs.declared.grammar.Factor.{Factor, Lit, Set, Call, Group}
-use Rattle.ix_model.specs.ExampleGrammars.{alternative, rule, marked_rule, grammar, literal, quoted, deleted, inserted, call, marked_call, digits}
+use Rattle.ix_examples.specs.SmallGrammars.{alternative, rule, marked_rule, grammar, literal, quoted, deleted, inserted, call, marked_call, digits}
 use Rattle.ix_expand.specs.declared.made.Made.{Made}
 
 -- a call without a mark

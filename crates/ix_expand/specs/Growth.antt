@@ -5,7 +5,7 @@ use Rattle.ix_model.specs.declared.rules.Kind.TheVariants.{Named}
 use Rattle.ix_model.specs.declared.rules.Flat.{Flat}
 use Rattle.ix_model.specs.declared.rules.Terminal.{Terminal}
 use Rattle.ix_model.specs.declared.rules.Rules.{Rules}
-use Rattle.ix_model.specs.Expanded.{Next}
+use Rattle.ix_model.specs.Expansion.Expanded.{Next}
 use Rattle.ix_expand.specs.declared.made.Made.{Made}
 
 -- the numbers that come next in the walk

@@ -4,16 +4,16 @@ use Rattle.std.specs.Char.{IsScalar}
 use Rattle.std.specs.List.{AllByRecursion}
 use Rattle.ix_model.specs.declared.grammar.Grammar.{Grammar}
 use Rattle.ix_model.specs.declared.rules.Sym.TheVariants as sym
-use Rattle.ix_model.specs.Breach.{Conforming}
-use Rattle.ix_model.specs.Derives.{IsDerivation}
-use Rattle.ix_model.specs.Expanded.{Expanded}
-use Rattle.ix_model.specs.ExpansionLaws.{IsPlanOf}
-use Rattle.ix_model.specs.FlatDerives.{IsFlatDerivation}
-use Rattle.ix_model.specs.FlatTrees.{FlatTree}
-use Rattle.ix_model.specs.Lift.{lift}
-use Rattle.ix_model.specs.Lower.{lower}
-use Rattle.ix_model.specs.Parts.{Parts}
-use Rattle.ix_model.specs.Trees.{Tree}
+use Rattle.ix_model.specs.Grammars.Breach.{Conforming}
+use Rattle.ix_model.specs.Derivations.Derives.{IsDerivation}
+use Rattle.ix_model.specs.Expansion.Expanded.{Expanded}
+use Rattle.ix_model.specs.Expansion.Planned.{IsPlanOf}
+use Rattle.ix_model.specs.Expansion.FlatDerives.{IsFlatDerivation}
+use Rattle.ix_model.specs.Expansion.FlatTrees.{FlatTree}
+use Rattle.ix_model.specs.Expansion.Lift.{lift}
+use Rattle.ix_model.specs.Expansion.Lower.{lower}
+use Rattle.ix_model.specs.Expansion.Parts.{Parts}
+use Rattle.ix_model.specs.Derivations.Trees.{Tree}
 
 -- the rules that a conforming grammar is expanded to are those of a plan of it, with a text of characters
 abbrev pub ConformingIsPlanOf : Type 0

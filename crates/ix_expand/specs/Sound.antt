@@ -3,9 +3,9 @@
 use Rattle.std.specs.List.{AllByRecursion}
 use Rattle.ix_model.specs.declared.grammar.Grammar.{Grammar}
 use Rattle.ix_model.specs.declared.grammar.Factor.{Factor}
-use Rattle.ix_model.specs.Breach.{IsCodePoint, IsDefined}
-use Rattle.ix_model.specs.Factors.{codes_of_factor, calls_of_factor}
-use Rattle.ix_model.specs.Spells.{IsHex}
+use Rattle.ix_model.specs.Grammars.Breach.{IsCodePoint, IsDefined}
+use Rattle.ix_model.specs.Grammars.Factors.{codes_of_factor, calls_of_factor}
+use Rattle.ix_model.specs.Spelling.Spells.{IsHex}
 
 -- its numbers are those of characters, in hexadecimal digits, and a rule has the name that it calls
 pub record IsSound (g : Grammar) (f : Factor) : Type 0 where

@@ -2,10 +2,10 @@
 
 ghost use Rattle.std.specs.Prelude.{◌≡◌, IfOk};
 ghost use Rattle.std.specs.List.{AllByRecursion};
-ghost use Rattle.ix_model.specs.Breach.{IsCodePoint};
-ghost use Rattle.ix_model.specs.Codes.{characters};
-ghost use Rattle.ix_model.specs.Factors.{codes_of_chars};
-ghost use Rattle.ix_model.specs.Spells.{IsHex};
+ghost use Rattle.ix_model.specs.Grammars.Breach.{IsCodePoint};
+ghost use Rattle.ix_model.specs.Matching.Codes.{characters};
+ghost use Rattle.ix_model.specs.Grammars.Factors.{codes_of_chars};
+ghost use Rattle.ix_model.specs.Spelling.Spells.{IsHex};
 
 use ix_model::{Chars, Text, code_point};
 use std::alloc::{AllocError, Global};

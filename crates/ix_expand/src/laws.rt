@@ -4,9 +4,9 @@ ghost use Rattle.std.specs.Prelude.{◌≡◌, ◌≢◌, ℕ, [], ◌∷◌, tr
 ghost use Rattle.ix_model.specs.declared.grammar.Factor.{Call};
 ghost use Rattle.ix_model.specs.declared.rules.Sym.TheVariants as sym;
 ghost use Rattle.ix_model.specs.declared.rules.Terminal.TheVariants as terminal;
-ghost use Rattle.ix_model.specs.ExampleGrammars.{only_a, of_term, literal, call};
-ghost use Rattle.ix_model.specs.ExampleRules.{a_rules, option_rules, list_rules, items};
-ghost use Rattle.ix_model.specs.Expanded.{FactorBecomes};
+ghost use Rattle.ix_examples.specs.SmallGrammars.{only_a, of_term, literal, call};
+ghost use Rattle.ix_examples.specs.SmallRules.{a_rules, option_rules, list_rules, items};
+ghost use Rattle.ix_model.specs.Expansion.Expanded.{FactorBecomes};
 ghost use Rattle.ix_expand.specs.Examples.{unmade, called};
 ghost use Rattle.ix_expand.specs.Growth.{next, count_of, begun, finished, with_terminal, with_insert, BeginsWith, HasBehind, Extends, Between, Makes};
 ghost use Rattle.ix_expand.specs.Laws.{ConformingIsPlanOf, ExpansionLifts, ExpansionLowers};

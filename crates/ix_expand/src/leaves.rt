@@ -2,14 +2,14 @@
 
 ghost use Rattle.std.specs.Prelude.{◌≡◌, ◌+◌, ◌<◌, ◌^◌, IfOk, OnOk, length, List, Bool};
 ghost use Rattle.std.specs.List.{AllByRecursion};
-ghost use Rattle.ix_model.specs.Bare.{is_shown_by};
-ghost use Rattle.ix_model.specs.Breach.{IsCodePoint, IsDefined};
-ghost use Rattle.ix_model.specs.Expanded.{FactorBecomes};
-ghost use Rattle.ix_model.specs.Factors.{codes_of_chars, codes_of_factor};
-ghost use Rattle.ix_model.specs.Spells.{IsHex};
+ghost use Rattle.ix_model.specs.Documents.Bare.{is_shown_by};
+ghost use Rattle.ix_model.specs.Grammars.Breach.{IsCodePoint, IsDefined};
+ghost use Rattle.ix_model.specs.Expansion.Expanded.{FactorBecomes};
+ghost use Rattle.ix_model.specs.Grammars.Factors.{codes_of_chars, codes_of_factor};
+ghost use Rattle.ix_model.specs.Spelling.Spells.{IsHex};
 ghost use Rattle.ix_model.specs.declared.grammar.Factor.{Lit, Set, Call, Insert};
 ghost use Rattle.ix_model.specs.declared.grammar.Member.{Member};
-ghost use Rattle.ix_model.specs.Written.{IsNamed};
+ghost use Rattle.ix_model.specs.Grammars.Written.{IsNamed};
 ghost use Rattle.ix_model.specs.declared.rules.Sym.TheVariants as sym;
 ghost use Rattle.ix_model.specs.declared.grammar.Grammar.{Grammar};
 ghost use Rattle.ix_expand.specs.Growth.{Makes, count_of};

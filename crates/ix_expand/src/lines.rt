@@ -1,7 +1,7 @@
 //! Alternatives of helper rules.
 
 ghost use Rattle.std.specs.Prelude.{◌≡◌, [], ◌∷◌, None, IfOk};
-ghost use Rattle.ix_model.specs.Expanded.{line, next_syms};
+ghost use Rattle.ix_model.specs.Expansion.Expanded.{line, next_syms};
 ghost use Rattle.ix_model.specs.declared.rules.Sym.TheVariants as sym;
 
 use ix_model::{Line, Sym};

@@ -1,7 +1,7 @@
 //! What the walk reads.
 
 ghost use Rattle.std.specs.Prelude.{◌≡◌, ◌^◌, ◌<◌, length};
-ghost use Rattle.ix_model.specs.Names.{names_of};
+ghost use Rattle.ix_model.specs.Grammars.Names.{names_of};
 
 use ix_model::{Grammar, Names};
 use std::alloc::{AllocError, Global};
@@ -17,8 +17,8 @@ pub struct Source<'g> {
 
 impl<'g> Source<'g> {
     ghost use Rattle.std.specs.Prelude.{IfOk};
-    ghost use Rattle.ix_model.specs.Breach.{IsDefined};
-    ghost use Rattle.ix_model.specs.Written.{IsNamed};
+    ghost use Rattle.ix_model.specs.Grammars.Breach.{IsDefined};
+    ghost use Rattle.ix_model.specs.Grammars.Written.{IsNamed};
 
     pub fn of(alloc: Global, grammar: &'g Grammar) -> Result<Source<'g>, AllocError>
         requires { length grammar.now.rules < 2 ^ 32 }

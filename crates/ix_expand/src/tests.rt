@@ -1,5 +1,5 @@
 ghost use Rattle.std.specs.Prelude.{◌≡◌, ◌++◌, ◌∷◌, [], IfOk, slice_get, take, false, Some, None};
-ghost use Rattle.ix_model.specs.ExampleGrammars.{alternative};
+ghost use Rattle.ix_examples.specs.SmallGrammars.{alternative};
 ghost use Rattle.ix_model.specs.declared.grammar.Chars.TheVariants.{Quoted};
 ghost use Rattle.ix_model.specs.declared.grammar.Factor.{Lit, Set, Call};
 ghost use Rattle.ix_model.specs.declared.grammar.Term.{One, Plus};

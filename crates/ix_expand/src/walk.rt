@@ -2,9 +2,9 @@
 
 ghost use Rattle.std.specs.Prelude.{◌≡◌, ◌+◌, ◌*◌, ◌<◌, ◌≤◌, ◌^◌, [], ◌∷◌, map, sum, length, IfOk, OnOk, option_map};
 ghost use Rattle.std.specs.List.{AllByRecursion};
-ghost use Rattle.ix_model.specs.Expanded.{TermBecomes, RepeatBecomes, SeparatorBecomes, FactorBecomes, AltsBecome, TermsBecome};
-ghost use Rattle.ix_model.specs.Factors.{factors_of_term, factors_of_factor, factors_of_alt, of_separator, joined};
-ghost use Rattle.ix_model.specs.Size.{factor_size, term_size, alt_size, separator_size};
+ghost use Rattle.ix_model.specs.Expansion.Expanded.{TermBecomes, RepeatBecomes, SeparatorBecomes, FactorBecomes, AltsBecome, TermsBecome};
+ghost use Rattle.ix_model.specs.Grammars.Factors.{factors_of_term, factors_of_factor, factors_of_alt, of_separator, joined};
+ghost use Rattle.ix_model.specs.Grammars.Size.{factor_size, term_size, alt_size, separator_size};
 ghost use Rattle.ix_model.specs.declared.grammar.Factor.{Group};
 ghost use Rattle.ix_model.specs.declared.grammar.Term.{Opt, Star, Plus};
 ghost use Rattle.ix_model.specs.declared.rules.Line.{Line};

@@ -3,14 +3,13 @@ use Rattle.std.proofs.Common.{◌≡◌, refl, sym, ap, ap₂, ◌∙◌, subst,
 use Rattle.std.proofs.lemmas.Bool.{eqb-true}
 use Rattle.std.proofs.lemmas.List.{take_at, drop_at, drop_more}
 use Rattle.std.specs.Prelude.{true, false, not, ◌==◌, if◌then◌else◌, IsTrue, option_map, codes}
-use Rattle.ix_model.specs.Characters.{is_one_of, is_name_start}
-use Rattle.ix_model.specs.Words.{NameAt}
-use Rattle.ix_model.specs.Spells.{escaped}
-use Rattle.ix_model.specs.Reading.Lexing.{Lexeme, word, quote, star, stars, plus, pluses, Read, word_of, digits_of, hex_of, quoted, begins, rest_of, next}
-use Rattle.ix_model.proofs.CharacterFacts.{in_all}
-use Rattle.ix_model.proofs.Booleans.{not_false}
-use Rattle.ix_model.proofs.LexemeFacts.{word_read, digits_are, string_reads, IsStringRest, string_read}
-use Rattle.ix_model.proofs.TokenFacts.{token_read}
+use Rattle.ix_model.specs.Spelling.Characters.{is_one_of, is_name_start}
+use Rattle.ix_model.specs.Spelling.Words.{NameAt}
+use Rattle.ix_model.specs.Spelling.Spells.{escaped}
+use Rattle.ix_spelling_laws.specs.Reading.Lexing.{Lexeme, word, quote, star, stars, plus, pluses, Read, word_of, digits_of, hex_of, quoted, begins, rest_of, next}
+use Rattle.ix_model.proofs.Booleans.{in_all, not_false}
+use Rattle.ix_spelling_laws.proofs.LexemeFacts.{word_read, digits_are, string_reads, IsStringRest, string_read}
+use Rattle.ix_spelling_laws.proofs.TokenFacts.{token_read}
 use Rattle.ix_lex.specs.declared.token.Tok.{Tok}
 use Rattle.ix_lex.specs.declared.token.Tok.TheVariants as tok
 use Rattle.ix_lex.specs.Spans.{content, lexeme_by}

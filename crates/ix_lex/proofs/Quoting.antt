@@ -1,7 +1,7 @@
 -- The loops over a string.
 use Rattle.std.proofs.Common.{ℕ, List, ◌++◌, Option}
 use Rattle.std.specs.Prelude.{Bool, true, false}
-use Rattle.ix_model.specs.Reading.Lexing.{quoted, closed, Read}
+use Rattle.ix_spelling_laws.specs.Reading.Lexing.{quoted, closed, Read}
 
 -- what was read before, and what is read behind it
 abbrev pub onto : List ℕ → Read → Read

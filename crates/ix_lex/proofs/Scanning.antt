@@ -4,12 +4,12 @@ use Rattle.std.proofs.Math.Dec.{eqb-suc-zero}
 use Rattle.std.proofs.lemmas.Bool.{eqb-true, eq-eqb}
 use Rattle.std.proofs.lemmas.List.{drop_more}
 use Rattle.std.specs.Prelude.{Bool, true, false, not, ◌&&◌, ◌||◌, ◌==◌, if◌then◌else◌}
-use Rattle.ix_model.specs.Characters.{is_blank, is_name_part}
-use Rattle.ix_model.specs.Spells.{is_hex_digit}
-use Rattle.ix_model.specs.Words.{gives_back, ends_run}
-use Rattle.ix_model.specs.Reading.Lexing.{spaced, after, word_of, digits_of, push, Read}
+use Rattle.ix_model.specs.Spelling.Characters.{is_blank, is_name_part}
+use Rattle.ix_model.specs.Spelling.Spells.{is_hex_digit}
+use Rattle.ix_model.specs.Spelling.Words.{gives_back, ends_run}
+use Rattle.ix_spelling_laws.specs.Reading.Lexing.{spaced, after, word_of, digits_of, push, Read}
 use Rattle.ix_lex.specs.Scans.{ends_word, deeper, opening, is_solid, leaves}
-use Rattle.ix_model.proofs.CharacterFacts.{brace_no_blank, close_no_blank}
+use Rattle.ix_spelling_laws.proofs.CharacterFacts.{brace_no_blank, close_no_blank}
 
 -- ---- spacing
 

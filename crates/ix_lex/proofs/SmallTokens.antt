@@ -3,7 +3,7 @@ use Rattle.std.proofs.Common.{◌≡◌, refl, [], ◌∷◌, codes, arith}
 use Rattle.unicode.specs.GeneralCategory.{general_category}
 use Rattle.unicode.specs.Rows.{value_in}
 use Rattle.ucd_category.specs.GeneralCategoryRows.{general_category_rows}
-use Rattle.ix_model.specs.Characters.{is_blank, is_name_start, is_name_part}
+use Rattle.ix_model.specs.Spelling.Characters.{is_blank, is_name_start, is_name_part}
 use Rattle.ix_lex.specs.Examples.{name, colon}
 use Rattle.ix_lex.specs.Spans.{AreTokens}
 use Rattle.ix_lex.specs.Strings.{IsString}

@@ -3,12 +3,12 @@ use Rattle.std.proofs.Common.{◌≡◌, refl, sym, ap, ap₂, ◌∙◌, subst,
 use Rattle.std.proofs.lemmas.Bool.{ltb-true, ltb-false, lt-ltb, le-ltb}
 use Rattle.std.proofs.lemmas.List.{take_at}
 use Rattle.std.specs.Prelude.{Bool, true, false, ◌==◌, if◌then◌else◌, nat_lt, unwrap_or}
-use Rattle.ix_model.specs.Spells.{StringAt}
-use Rattle.ix_model.specs.Reading.Lexing as lexing
-use Rattle.ix_model.specs.Reading.Lexing.{Lexeme, Lexes, next, after, has_gap, mark_of, quoted}
-use Rattle.ix_model.proofs.ReadingComplete.{lexes_once, same_some}
-use Rattle.ix_model.proofs.LexemeFacts.{string_reads}
-use Rattle.ix_model.proofs.TokenFacts.{token_read}
+use Rattle.ix_model.specs.Spelling.Spells.{StringAt}
+use Rattle.ix_spelling_laws.specs.Reading.Lexing as lexing
+use Rattle.ix_spelling_laws.specs.Reading.Lexing.{Lexeme, Lexes, next, after, mark_of}
+use Rattle.ix_spelling_laws.proofs.ReadingComplete.{lexes_once, same_some}
+use Rattle.ix_spelling_laws.proofs.LexemeFacts.{string_reads}
+use Rattle.ix_spelling_laws.proofs.TokenFacts.{token_read}
 use Rattle.ix_lex.specs.declared.token.Tok.{Tok}
 use Rattle.ix_lex.specs.declared.token.Tok.TheVariants as tok
 use Rattle.ix_lex.specs.declared.token.Token.{Token}

@@ -1,10 +1,10 @@
 -- The loop over tokens.
 use Rattle.std.proofs.Common.{◌≡◌, refl, sym, ap, ◌∙◌, subst, ℕ, List, [], ◌∷◌, ◌++◌, append_assoc, Some, None, length, ◌<◌, ◌≤◌, arith, drop, length-drop}
 use Rattle.std.proofs.lemmas.List.{append-nil}
-use Rattle.ix_model.specs.Reading.Lexing as lexing
-use Rattle.ix_model.specs.Reading.Lexing.{Lexeme, Lexes, next, after, has_gap}
-use Rattle.ix_model.proofs.ReadingComplete.{same_some}
-use Rattle.ix_model.proofs.SpacingFacts.{after_again}
+use Rattle.ix_spelling_laws.specs.Reading.Lexing as lexing
+use Rattle.ix_spelling_laws.specs.Reading.Lexing.{Lexeme, Lexes, next, after, has_gap}
+use Rattle.ix_spelling_laws.proofs.ReadingComplete.{same_some}
+use Rattle.ix_spelling_laws.proofs.SpacingFacts.{after_again}
 use Rattle.ix_lex.specs.declared.token.Token.{Token}
 use Rattle.ix_lex.specs.Spans.{AreTokens, lexeme_of}
 use Rattle.ix_lex.specs.Turns.{IsAt, AreTokensBefore}

@@ -2,7 +2,7 @@
 use Rattle.std.specs.Prelude.{◌≡◌, ℕ, ◌<◌, ◌≤◌, Bool, true, false, List, length, take, drop, Option, Some, None}
 use Rattle.ix_lex.specs.declared.token.Tok.{Tok}
 use Rattle.ix_lex.specs.Spans.{lexeme_by}
-use Rattle.ix_model.specs.Reading.Lexing.{Lexeme}
+use Rattle.ix_spelling_laws.specs.Reading.Lexing.{Lexeme}
 
 -- what is read of c as `given` is a token of this kind, and takes this many characters
 pub record Stands (c : List ℕ) (given : Option (Lexeme × List ℕ)) (kind : Tok) (taken : ℕ) : Type 0 where

@@ -4,8 +4,8 @@ use Rattle.ix_lex.specs.declared.token.Tok.TheVariants.{Quote}
 use Rattle.ix_lex.specs.declared.token.Token.{Token}
 use Rattle.ix_lex.specs.Spans.{AreTokens, chars_of, lexed}
 use Rattle.ix_lex.specs.Strings.{IsString}
-use Rattle.ix_model.specs.Reading.Lexing as lexing
-use Rattle.ix_model.specs.Reading.Lexing.{Lexes}
+use Rattle.ix_spelling_laws.specs.Reading.Lexing as lexing
+use Rattle.ix_spelling_laws.specs.Reading.Lexing.{Lexes}
 
 -- what a list of spans stands for are tokens of the characters
 abbrev pub SpansStandForTokens : Type 0

@@ -1,8 +1,8 @@
 -- Single steps over the characters: where spacing, words and numbers end, and what a string's characters add to its content.
 use Rattle.std.specs.Prelude.{ℕ, Bool, true, not, ◌&&◌, ◌||◌, ◌==◌, if◌then◌else◌, ◌+◌, ◌-◌, List, [], ◌∷◌, ◌++◌}
-use Rattle.ix_model.specs.Characters.{is_one_of, is_blank, is_name_part}
-use Rattle.ix_model.specs.Words.{gives_back, ends_run}
-use Rattle.ix_model.specs.Reading.Lexing.{after}
+use Rattle.ix_model.specs.Spelling.Characters.{is_one_of, is_blank, is_name_part}
+use Rattle.ix_model.specs.Spelling.Words.{gives_back, ends_run}
+use Rattle.ix_spelling_laws.specs.Reading.Lexing.{after}
 
 -- whether a word ends before the characters
 abbrev pub ends_word : List ℕ → Bool

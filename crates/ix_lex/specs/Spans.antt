@@ -3,8 +3,8 @@ use Rattle.std.specs.Prelude.{◌≡◌, ℕ, ◌-◌, ◌<◌, ◌≤◌, nat_l
 use Rattle.ix_lex.specs.declared.token.Tok.{Tok}
 use Rattle.ix_lex.specs.declared.token.Tok.TheVariants as tok
 use Rattle.ix_lex.specs.declared.token.Token.{Token}
-use Rattle.ix_model.specs.Reading.Lexing as lexing
-use Rattle.ix_model.specs.Reading.Lexing.{Lexeme, after, next, quoted, mark_of}
+use Rattle.ix_spelling_laws.specs.Reading.Lexing as lexing
+use Rattle.ix_spelling_laws.specs.Reading.Lexing.{Lexeme, after, next, quoted, mark_of}
 
 -- the content of a string that stands with its quotes; no token is another list of characters
 abbrev pub content : List ℕ → List ℕ

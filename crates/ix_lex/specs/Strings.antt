@@ -1,7 +1,7 @@
 -- Strings that stand alone, with their quotes and nothing behind them.
 use Rattle.std.specs.Prelude.{◌≡◌, ℕ, List, [], ◌∷◌, codes, IsTrue, Some}
-use Rattle.ix_model.specs.Characters.{is_one_of}
-use Rattle.ix_model.specs.Reading.Lexing.{quoted}
+use Rattle.ix_model.specs.Spelling.Characters.{is_one_of}
+use Rattle.ix_spelling_laws.specs.Reading.Lexing.{quoted}
 
 -- a string that begins with the quote q ends with the last of these characters
 abbrev pub IsRestOfString : ℕ → List ℕ → Type 0

@@ -2,8 +2,8 @@
 use Rattle.std.specs.Prelude.{◌≡◌, ℕ, ◌<◌, ◌≤◌, List, ◌++◌, length, drop, Option, Some, None}
 use Rattle.ix_lex.specs.declared.token.Token.{Token}
 use Rattle.ix_lex.specs.Spans.{AreTokens, lexeme_of}
-use Rattle.ix_model.specs.Reading.Lexing as lexing
-use Rattle.ix_model.specs.Reading.Lexing.{after, next, Lexes}
+use Rattle.ix_spelling_laws.specs.Reading.Lexing as lexing
+use Rattle.ix_spelling_laws.specs.Reading.Lexing.{after, next, Lexes}
 
 -- this token stands at a place among the characters
 pub record IsAt (c : List ℕ) (low : ℕ) (t : Token) : Type 0 where

@@ -1,13 +1,13 @@
 //! The tests of one character.
 
 ghost use Rattle.std.specs.Prelude.{◌≡◌, codes};
-ghost use Rattle.ix_model.specs.Characters.{is_one_of, is_blank, is_name_start, is_name_part};
-ghost use Rattle.ix_model.specs.Spells.{is_hex_digit};
+ghost use Rattle.ix_model.specs.Spelling.Characters.{is_one_of, is_blank, is_name_start, is_name_part};
+ghost use Rattle.ix_model.specs.Spelling.Spells.{is_hex_digit};
 
 use unicode::properties::{GeneralCategory, GeneralCategoryGroup};
 
 /// Whether a character is a blank.
-#[tactic(auto, unfolding(ix_model::specs::Characters::is_blank))]
+#[tactic(auto, unfolding(ix_model::specs::Spelling::Characters::is_blank))]
 pub fn is_blank(c: char) -> bool
     ensures { result ≡ is_blank c }
 {
@@ -21,7 +21,7 @@ pub fn is_blank(c: char) -> bool
 }
 
 /// Whether a character begins a name.
-#[tactic(auto, unfolding(ix_model::specs::Characters::is_name_start))]
+#[tactic(auto, unfolding(ix_model::specs::Spelling::Characters::is_name_start))]
 pub fn is_name_start(c: char) -> bool
     ensures { result ≡ is_name_start c }
 {
@@ -29,7 +29,7 @@ pub fn is_name_start(c: char) -> bool
 }
 
 /// Whether a character stands within a name.
-#[tactic(auto, unfolding(ix_model::specs::Characters::is_name_part))]
+#[tactic(auto, unfolding(ix_model::specs::Spelling::Characters::is_name_part))]
 pub fn is_name_part(c: char) -> bool
     ensures { result ≡ is_name_part c }
 {

@@ -1,8 +1,8 @@
 //! The token with which characters begin.
 
 ghost use Rattle.std.specs.Prelude.{◌≡◌, ◌∷◌, ◌<◌, ◌^◌, length, if◌then◌else◌, IsTrue, Some, codes, option_map};
-ghost use Rattle.ix_model.specs.Characters.{is_one_of};
-ghost use Rattle.ix_model.specs.Reading.Lexing.{begins, digits_of, hex_of, mark_of, next, plus, pluses, quote, quoted, rest_of, star, stars};
+ghost use Rattle.ix_model.specs.Spelling.Characters.{is_one_of};
+ghost use Rattle.ix_spelling_laws.specs.Reading.Lexing.{begins, digits_of, hex_of, mark_of, next, plus, pluses, quote, quoted, rest_of, star, stars};
 ghost use Rattle.ix_lex.specs.First.{IsFirst, is_there};
 
 use crate::characters::{is_name_start, is_quote};

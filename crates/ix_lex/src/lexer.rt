@@ -1,8 +1,8 @@
 //! The tokens of characters, from the first to the last.
 
 ghost use Rattle.std.specs.Prelude.{◌≡◌, ◌≤◌, ℕ, List, length, drop, IfOk, Err};
-ghost use Rattle.ix_model.specs.Reading.Lexing as lexing;
-ghost use Rattle.ix_model.specs.Reading.Lexing.{Lexes, after};
+ghost use Rattle.ix_spelling_laws.specs.Reading.Lexing as lexing;
+ghost use Rattle.ix_spelling_laws.specs.Reading.Lexing.{Lexes, after};
 ghost use Rattle.ix_lex.specs.Spans.{AreTokens};
 ghost use Rattle.ix_lex.specs.Turns.{IsTokenAt};
 ghost use Rattle.ix_lex.specs.declared.fault.LexFault.TheVariants.{Bad};

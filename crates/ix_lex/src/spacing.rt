@@ -1,7 +1,7 @@
 //! How long the spacing before a token is.
 
 ghost use Rattle.std.specs.Prelude.{◌≡◌, ◌≤◌, ◌<◌, ◌^◌, length, drop};
-ghost use Rattle.ix_model.specs.Reading.Lexing.{after};
+ghost use Rattle.ix_spelling_laws.specs.Reading.Lexing.{after};
 ghost use Rattle.ix_lex.specs.Scans.{deeper, opening, leaves};
 
 use crate::characters::is_blank;

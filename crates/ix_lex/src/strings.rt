@@ -1,7 +1,7 @@
 //! Strings: how long one is, and its content.
 
 ghost use Rattle.std.specs.Prelude.{◌≡◌, ◌≤◌, length, drop, option_map, OnOk, IfOk, IfSome, Some};
-ghost use Rattle.ix_model.specs.Reading.Lexing.{quoted};
+ghost use Rattle.ix_spelling_laws.specs.Reading.Lexing.{quoted};
 ghost use Rattle.ix_lex.specs.Scans.{added, breaks};
 ghost use Rattle.ix_lex.specs.Spans.{content};
 ghost use Rattle.ix_lex.specs.Strings.{IsString, IsRestOfString};

@@ -1,8 +1,8 @@
 //! How long a word and a number are.
 
 ghost use Rattle.std.specs.Prelude.{◌≡◌, ◌≤◌, ◌<◌, ◌^◌, length, drop};
-ghost use Rattle.ix_model.specs.Words.{gives_back, ends_run};
-ghost use Rattle.ix_model.specs.Reading.Lexing.{word_of, digits_of};
+ghost use Rattle.ix_model.specs.Spelling.Words.{gives_back, ends_run};
+ghost use Rattle.ix_spelling_laws.specs.Reading.Lexing.{word_of, digits_of};
 ghost use Rattle.ix_lex.specs.Scans.{ends_word};
 
 use crate::characters::{is_hex_digit, is_name_part};

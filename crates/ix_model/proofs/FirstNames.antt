@@ -13,9 +13,9 @@ use Rattle.std.proofs.lemmas.Map.Text.{btree_map_updates_str}
 use Rattle.std.proofs.lemmas.Option.{slice_get-map}
 use Rattle.ix_model.specs.declared.grammar.Grammar.{Grammar}
 use Rattle.ix_model.specs.declared.grammar.Rule.{Rule}
-use Rattle.ix_model.specs.Written.{IsNamed}
-use Rattle.ix_model.specs.Breach.{IsDefined}
-use Rattle.ix_model.specs.Names.{names_of, IsFirstAt, number_in, AreNumbersOf, AddsFirst}
+use Rattle.ix_model.specs.Grammars.Written.{IsNamed}
+use Rattle.ix_model.specs.Grammars.Breach.{IsDefined}
+use Rattle.ix_model.specs.Grammars.Names.{names_of, IsFirstAt, number_in, AreNumbersOf, AddsFirst}
 
 -- ---- the first that passes
 

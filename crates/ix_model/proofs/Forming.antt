@@ -2,7 +2,7 @@
 use Rattle.std.proofs.Common.{◌≡◌, ap, Option}
 use Rattle.ix_model.specs.declared.grammar.Term.{One, Opt, Star, Plus}
 use Rattle.ix_model.specs.declared.grammar.Factor.{Factor}
-use Rattle.ix_model.specs.Bare.{factor_in, separator_in, factor_of, separator_of}
+use Rattle.ix_model.specs.Documents.Bare.{factor_in, separator_in, factor_of, separator_of}
 use Rattle.ix_model.proofs.Forms.{out_one, out_opt, out_star, out_plus}
 
 pub factor_of_one : (f : Factor) → factor_of (One f) ≡ f

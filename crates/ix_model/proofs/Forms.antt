@@ -1,5 +1,5 @@
 -- The form of a term is the form of each tree that derives from it; and terms are told apart by what they are made of.
-use Rattle.std.proofs.Common.{◌≡◌, ap, sym, ◌∙◌, ◌⊎◌, ℕ, List, Option}
+use Rattle.std.proofs.Common.{◌≡◌, refl, ap, sym, subst, ◌∙◌, ◌⊎◌, ℕ, List, Option, None, arith}
 use mathlib.Core.Logic.{inl, inr}
 use Rattle.std.specs.Prelude.{Bool}
 use Rattle.ix_model.specs.declared.grammar.Grammar.{Grammar}
@@ -14,9 +14,10 @@ use Rattle.ix_model.specs.declared.grammar.Factor.{Factor, Lit, Set, Call, Inser
 use Rattle.ix_model.specs.declared.grammar.Factor.TheVariants as fv
 use Rattle.ix_model.specs.declared.grammar.Factor.TheViews as FV
 use Rattle.ix_model.specs.declared.grammar.Factor.TheOpen.{Factor-F, Term-F}
-use Rattle.ix_model.specs.Terminals.{Matches}
-use Rattle.ix_model.specs.Trees.{Tree, text, insertion, node, group, present, absent, no_item, list}
-use Rattle.ix_model.specs.Derives.{Derives}
+use Rattle.ix_model.specs.Grammars.Written.{IsNamed, IsOfRule}
+use Rattle.ix_model.specs.Matching.Terminals.{Matches}
+use Rattle.ix_model.specs.Derivations.Trees.{Tree, text, insertion, node, group, present, absent, no_item, list, Trees}
+use Rattle.ix_model.specs.Derivations.Derives.{Derives, DerivesAll}
 
 abbrev pub form : Tree → ℕ
 form (text i j) = 0
@@ -119,3 +120,12 @@ module _ (g : Grammar) (s : List ℕ) where
   derived_form absent t i j h = ap (λ x. term_form (out-Term x)) h.1 ∙ ap term_form (out_opt h.0)
   derived_form no_item t i j h = repeated_form t h.0 h.1 (inr h.2)
   derived_form (list ds) t i j h = repeated_form t h.0 h.1 h.2
+
+module _ (g : Grammar) (s : List ℕ) where
+  -- a call derives a node of a rule with its name
+  pub call_is_node : (d : Tree) (name : List ℕ) (i j : ℕ) → Derives g s d (One (Call None name)) i j →
+      (r : ℕ) × (a : ℕ) × (ds : Trees) × (terms : List Term) × (d ≡ node r a ds) × IsNamed g r name × IsOfRule g r a terms × DerivesAll g s ds terms i j
+  call_is_node (node r a ds) name i j h =
+      let e : h.0.1 ≡ name = cc h.0.2 in
+      (r, a, ds, h.1, refl, subst (λ x. IsNamed g r x) e h.0.3, h.2, (h.3, h.4))
+  call_is_node d name i j h = absurd (omega (arith, sym (derived_form g s d (One (Call None name)) i j h) ∙ one_form _ _ 2 refl (ap factor_form (out_call None name))))

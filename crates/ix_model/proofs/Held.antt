@@ -7,7 +7,7 @@ use Rattle.std.proofs.lemmas.Option.{slice_get_within, slice_get-get_or, get_or_
 use Rattle.std.proofs.lemmas.Bool.Decides.{nat_tests}
 use mathlib.Core.Logic.{inl, inr}
 use Rattle.ix_model.specs.declared.char_set.CharRange.{CharRange}
-use Rattle.ix_model.specs.Ranges.{IsInRanges, AreAfter, AreApart}
+use Rattle.ix_model.specs.Matching.Ranges.{IsInRanges, AreAfter, AreApart}
 
 -- a range that holds the character
 pub record Holds (c : ℕ) (rs : List CharRange) : Type 0 where

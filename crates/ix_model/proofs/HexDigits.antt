@@ -4,10 +4,9 @@ use Rattle.std.specs.Prelude.{Bool, true, ◌&&◌, ◌==◌, nat_lt, IsTrue, co
 use Rattle.std.specs.List.{list_all}
 use Rattle.std.specs.Char as std
 use Rattle.std.proofs.lemmas.Bool.{eqb-true, ltb-true}
-use Rattle.ix_model.specs.Codes.{digit_value, value_after}
-use Rattle.ix_model.specs.Spells.{is_hex_digit}
-use Rattle.ix_model.proofs.Booleans.{both}
-use Rattle.ix_model.proofs.CharacterFacts.{in_all}
+use Rattle.ix_model.specs.Matching.Codes.{digit_value, value_after}
+use Rattle.ix_model.specs.Spelling.Spells.{is_hex_digit}
+use Rattle.ix_model.proofs.Booleans.{both, in_all}
 
 -- whether the value of c as a digit is the one that std gives it, and is below 16
 abbrev has_value : ℕ → Bool

@@ -9,11 +9,11 @@ use Rattle.ix_model.specs.declared.rules.Line.{Line}
 use Rattle.ix_model.specs.declared.rules.Flat.{Flat}
 use Rattle.ix_model.specs.declared.rules.Rules.{Rules}
 use Rattle.ix_model.specs.declared.plan.SlotInfo.{SlotInfo}
-use Rattle.ix_model.specs.Parts.{Parts}
-use Rattle.ix_model.specs.Numbered.{lines_at, syms_at}
-use Rattle.ix_model.specs.Numbering.{slot, dots_from, alts_from, rules_from, is_before}
-use Rattle.ix_model.specs.Slots.{IsSlot, info_at, sym_after}
-use Rattle.ix_model.specs.Planned.{IsPlanned}
+use Rattle.ix_model.specs.Expansion.Parts.{Parts}
+use Rattle.ix_model.specs.Expansion.Numbered.{lines_at, syms_at}
+use Rattle.ix_model.specs.Expansion.Numbering.{slot, dots_from, alts_from, rules_from, is_before}
+use Rattle.ix_model.specs.Expansion.Slots.{IsSlot, info_at, sym_after}
+use Rattle.ix_model.specs.Expansion.Planned.{IsPlanned}
 use Rattle.ix_model.proofs.Numbers.{IsEarlier, by_rule, by_alt, by_dot}
 use Rattle.ix_model.proofs.Slots.{place_of, slot_of, order, next_number, further, before_start, start_itself}
 

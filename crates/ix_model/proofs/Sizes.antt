@@ -11,8 +11,8 @@ use Rattle.ix_model.specs.declared.grammar.Member.{Member}
 use Rattle.ix_model.specs.declared.grammar.Alt.{Alt}
 use Rattle.ix_model.specs.declared.grammar.Term.{Term, One, Opt, Star, Plus}
 use Rattle.ix_model.specs.declared.grammar.Factor.{Factor, Lit, Set, Call, Insert, Group}
-use Rattle.ix_model.specs.Size.{factor_size, term_size, alt_size, rule_size}
-use Rattle.ix_model.specs.Size as Z
+use Rattle.ix_model.specs.Grammars.Size.{factor_size, term_size, alt_size, rule_size}
+use Rattle.ix_model.specs.Grammars.Size as Z
 use Rattle.ix_model.proofs.Folds as F
 
 pub sum_push : {X : Type 0} (f : X → ℕ) (xs : List X) (x : X) → sum (map f (xs ++ x ∷ [])) ≡ sum (map f xs) + f x

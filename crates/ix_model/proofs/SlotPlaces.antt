@@ -4,12 +4,12 @@ use Rattle.std.proofs.lemmas.Option.{slice_get_within}
 use Rattle.ix_model.specs.declared.rules.Sym.{Sym}
 use Rattle.ix_model.specs.declared.rules.Line.{Line}
 use Rattle.ix_model.specs.declared.plan.SlotInfo.{SlotInfo}
-use Rattle.ix_model.specs.Parts.{Parts}
-use Rattle.ix_model.specs.Planned.{IsPlanned}
-use Rattle.ix_model.specs.Numbering.{slot}
-use Rattle.ix_model.specs.Slots.{IsSlot}
-use Rattle.ix_model.specs.FlatDerives.{IsLine}
-use Rattle.ix_model.specs.SlotPlaces.{HasNext, IsLast}
+use Rattle.ix_model.specs.Expansion.Parts.{Parts}
+use Rattle.ix_model.specs.Expansion.Planned.{IsPlanned}
+use Rattle.ix_model.specs.Expansion.Numbering.{slot}
+use Rattle.ix_model.specs.Expansion.Slots.{IsSlot}
+use Rattle.ix_model.specs.Expansion.FlatDerives.{IsLine}
+use Rattle.ix_model.specs.Expansion.SlotPlaces.{HasNext, IsLast}
 use Rattle.ix_model.proofs.Numbers.{same_info}
 use Rattle.ix_model.proofs.Slots.{slot_of, one_slot}
 

@@ -3,13 +3,13 @@ use Rattle.std.proofs.Common.{◌≡◌, refl, ap, sym, subst, ◌∙◌, ◌+�
 use Rattle.std.proofs.lemmas.Option.{slice_get_within, slice_get_past, get_or_from_slice_get}
 use Rattle.ix_model.specs.declared.rules.Sym.{Sym}
 use Rattle.ix_model.specs.declared.plan.SlotInfo.{SlotInfo}
-use Rattle.ix_model.specs.Parts.{Parts}
-use Rattle.ix_model.specs.Planned.{IsPlanned}
-use Rattle.ix_model.specs.Numbered.{syms_at}
-use Rattle.ix_model.specs.Numbering.{slot}
-use Rattle.ix_model.specs.Slots.{IsSlot, info_at, sym_after}
-use Rattle.ix_model.specs.FlatDerives.{IsLine}
-use Rattle.ix_model.specs.SlotPlaces.{IsFirst, IsLast, HasNext}
+use Rattle.ix_model.specs.Expansion.Parts.{Parts}
+use Rattle.ix_model.specs.Expansion.Planned.{IsPlanned}
+use Rattle.ix_model.specs.Expansion.Numbered.{syms_at}
+use Rattle.ix_model.specs.Expansion.Numbering.{slot}
+use Rattle.ix_model.specs.Expansion.Slots.{IsSlot, info_at, sym_after}
+use Rattle.ix_model.specs.Expansion.FlatDerives.{IsLine}
+use Rattle.ix_model.specs.Expansion.SlotPlaces.{IsFirst, IsLast, HasNext}
 use Rattle.ix_model.proofs.Readers.{syms_is, slot_at}
 use Rattle.ix_model.proofs.Slots.{HasPlace, place_of, one_slot, next_number}
 

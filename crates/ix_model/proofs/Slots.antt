@@ -5,10 +5,10 @@ use Rattle.std.proofs.lemmas.Bool.Decides.{nat_tests}
 use Rattle.ix_model.specs.declared.rules.Line.{Line}
 use Rattle.ix_model.specs.declared.rules.Flat.{Flat}
 use Rattle.ix_model.specs.declared.plan.SlotInfo.{SlotInfo}
-use Rattle.ix_model.specs.Parts.{Parts}
-use Rattle.ix_model.specs.Numbering.{slot, numbering, is_before}
-use Rattle.ix_model.specs.Slots.{IsSlot, info_at}
-use Rattle.ix_model.specs.Planned.{IsPlanned}
+use Rattle.ix_model.specs.Expansion.Parts.{Parts}
+use Rattle.ix_model.specs.Expansion.Numbering.{slot, numbering, is_before}
+use Rattle.ix_model.specs.Expansion.Slots.{IsSlot, info_at}
+use Rattle.ix_model.specs.Expansion.Planned.{IsPlanned}
 use Rattle.ix_model.proofs.Numbers.{IsEarlier, by_rule, by_alt, by_dot, rules_in, rules_there, slots_order, same_info}
 
 -- the slot's rule, alternative and dot are there

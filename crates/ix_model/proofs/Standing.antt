@@ -8,11 +8,11 @@ use Rattle.ix_model.specs.declared.grammar.Grammar.{Grammar}
 use Rattle.ix_model.specs.declared.grammar.Rule.{Rule}
 use Rattle.ix_model.specs.declared.grammar.Member.{Member}
 use Rattle.ix_model.specs.declared.grammar.Member.TheVariants as member
-use Rattle.ix_model.specs.Classes.{in_class}
-use Rattle.ix_model.specs.Codes.{bound_value}
-use Rattle.ix_model.specs.Sets.{IsOneOf, IsOfMember, IsOfSome, InSet}
-use Rattle.ix_model.specs.Terminals.{StandsAt}
-use Rattle.ix_model.specs.Written.{IsNamed}
+use Rattle.ix_model.specs.Matching.Classes.{in_class}
+use Rattle.ix_model.specs.Matching.Codes.{bound_value}
+use Rattle.ix_model.specs.Matching.Sets.{IsOneOf, IsOfMember, IsOfSome, InSet}
+use Rattle.ix_model.specs.Matching.Terminals.{StandsAt}
+use Rattle.ix_model.specs.Grammars.Written.{IsNamed}
 use Rattle.ix_model.proofs.Decide.{Answered, both, all_three, either, by_test}
 
 same_text : (xs ys : List ℕ) → Answered (xs ≡ ys)

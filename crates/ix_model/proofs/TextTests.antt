@@ -7,7 +7,7 @@ use Rattle.std.proofs.lemmas.List.{take_rest}
 use Rattle.std.proofs.lemmas.Bool.Decides.{Decides-eqb}
 use Rattle.std.proofs.lemmas.Slice.Eq.{slice_eq-Decides}
 use Rattle.std.proofs.lemmas.Option.{slice_get_within}
-use Rattle.ix_model.specs.Terminals.{StandsAt}
+use Rattle.ix_model.specs.Matching.Terminals.{StandsAt}
 
 -- the test tells whether the characters stand behind i
 begins : (s cs : List ℕ) (i : ℕ) (r : Bool) → r ≡ starts_with eqb (take (length s - i) (drop i s)) cs → Decides r (cs ≡ take (length cs) (drop i s))

@@ -1,5 +1,5 @@
 ghost use Rattle.std.specs.Prelude.{◌≡◌, ◌↔◌, IsTrue, nat_lt};
-ghost use Rattle.ix_model.specs.Ranges.{AreApart, IsInRanges};
+ghost use Rattle.ix_model.specs.Matching.Ranges.{AreApart, IsInRanges};
 
 use sqlite_items::at;
 use std::marker::Model;
@@ -20,7 +20,7 @@ pub struct CharSet {
 impl Model for CharSet {
     ghost use Rattle.std.specs.Prelude.{List};
     ghost use Rattle.ix_model.specs.declared.char_set.CharRange.{CharRange};
-    ghost use Rattle.ix_model.specs.Ranges.{AreApart};
+    ghost use Rattle.ix_model.specs.Matching.Ranges.{AreApart};
 
     ghost Value = { List CharRange };
 

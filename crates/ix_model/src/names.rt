@@ -1,5 +1,5 @@
 ghost use Rattle.std.specs.Prelude.{◌≡◌, ◌≢◌, ℕ, List, IfOk, IfSome, IfNone, OnOk, Some, slice_get};
-ghost use Rattle.ix_model.specs.Names.{AddsFirst, AreNumbersOf, IsFirstAt, names_of};
+ghost use Rattle.ix_model.specs.Grammars.Names.{AddsFirst, AreNumbersOf, IsFirstAt, names_of};
 
 use crate::grammar::Rule;
 use std::alloc::{AllocError, Global};
@@ -15,7 +15,7 @@ pub struct Names<'a> {
 
 impl<'a> Model for Names<'a> {
     ghost use Rattle.std.specs.Prelude.{List, ℕ};
-    ghost use Rattle.ix_model.specs.Names.{AreNumbersOf, names_of};
+    ghost use Rattle.ix_model.specs.Grammars.Names.{AreNumbersOf, names_of};
 
     ghost Value = { List (List ℕ) };
 

@@ -1,8 +1,8 @@
 ghost use Rattle.std.specs.Prelude.{◌≡◌, ◌<◌, ◌+◌, length, IsSome, IfSome};
-ghost use Rattle.ix_model.specs.Planned.{IsPlanned, IsThere, AreThere};
-ghost use Rattle.ix_model.specs.Numbered.{kind_at, lines_at, syms_at, name_at, mark_at, terminal_at, insert_at};
-ghost use Rattle.ix_model.specs.Numbering.{is_before};
-ghost use Rattle.ix_model.specs.Slots.{IsSlot, info_at, sym_after};
+ghost use Rattle.ix_model.specs.Expansion.Planned.{IsPlanned, IsThere, AreThere};
+ghost use Rattle.ix_model.specs.Expansion.Numbered.{kind_at, lines_at, syms_at, name_at, mark_at, terminal_at, insert_at};
+ghost use Rattle.ix_model.specs.Expansion.Numbering.{is_before};
+ghost use Rattle.ix_model.specs.Expansion.Slots.{IsSlot, info_at, sym_after};
 
 use crate::grammar::Mark;
 use crate::rules::{Kind, Line, Rules, Sym, Terminal};
@@ -27,11 +27,11 @@ pub struct Plan {
 }
 
 impl Model for Plan {
-    ghost use Rattle.ix_model.specs.Parts.{Parts};
+    ghost use Rattle.ix_model.specs.Expansion.Parts.{Parts};
 
     ghost Value = { Parts };
 
-    ghost use Rattle.ix_model.specs.Planned.{IsPlanned};
+    ghost use Rattle.ix_model.specs.Expansion.Planned.{IsPlanned};
 
     ghost view = { λ p. record { rules = p.rules; slots = p.slots.items; text = p.text.items } };
 
@@ -221,6 +221,3 @@ impl Plan {
         self.rules.marks.as_slice()[rule as usize]
     }
 }
-
-#[cfg(test)]
-mod tests;

@@ -10,7 +10,7 @@ use Rattle.ix_model.specs.declared.grammar.Alt.{Alt}
 use Rattle.ix_model.specs.declared.grammar.Term.{Term, One, Opt, Star, Plus}
 use Rattle.ix_model.specs.declared.grammar.Factor.{Factor, Lit, Set, Call, Insert, Group}
 use Rattle.ix_model.specs.declared.grammar.Factor.TheFolds.{fold-Factor, fold-Term}
-use Rattle.ix_model.specs.Depth as D
+use Rattle.ix_model.specs.Spelling.Depth as D
 use Rattle.ix_model.proofs.Folds as F
 
 pub greatest_push : {X : Type 0} (f : X → ℕ) (xs : List X) (x : X) → D.greatest (map f (xs ++ x ∷ [])) ≡ max (D.greatest (map f xs)) (f x)

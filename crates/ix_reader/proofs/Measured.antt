@@ -2,11 +2,11 @@
 use Rattle.std.proofs.Common.{◌≡◌, ap, ◌∙◌, subst, ℕ, suc, ◌+◌, ◌≤◌, List, [], ◌∷◌, length, Option, Some, None, arith}
 use Rattle.std.specs.Prelude.{max}
 use Rattle.ix_model.specs.declared.grammar.Grammar.{Grammar}
-use Rattle.ix_model.specs.Depth.{depth}
-use Rattle.ix_model.specs.Reading.Lexing.{Token}
-use Rattle.ix_model.specs.Reading.Machine as M
+use Rattle.ix_model.specs.Spelling.Depth.{depth}
+use Rattle.ix_spelling_laws.specs.Reading.Lexing.{Token}
+use Rattle.ix_spelling_laws.specs.Reading.Machine as M
 use Rattle.ix_reader.specs.Parentheses.{turn, deepest}
-use Rattle.ix_model.specs.Size.{size}
+use Rattle.ix_model.specs.Grammars.Size.{size}
 use Rattle.ix_reader.proofs.Measures.{height, size_read, depth_read, Grows, step_grows}
 
 -- what the measures where m tokens are left say of the grammar: d is the most parentheses that are open behind one of them

@@ -11,16 +11,16 @@ use Rattle.ix_model.specs.declared.grammar.Bound.{Bound}
 use Rattle.ix_model.specs.declared.grammar.Member.TheVariants as member
 use Rattle.ix_model.specs.declared.grammar.Term.{Term, One, Opt, Star, Plus}
 use Rattle.ix_model.specs.declared.grammar.Factor.{Factor, Lit, Set, Call, Insert, Group}
-use Rattle.ix_model.specs.Spells.{is_class}
-use Rattle.ix_model.specs.Reading.Lexing.{Lexeme, word, quote, hex, at, caret, dash, colon, equals, semi, bar, comma, stop, question, star, stars, plus, pluses, open_group, close_group, open_set, close_set, tilde}
-use Rattle.ix_model.specs.Reading.Machine as M
-use Rattle.ix_model.specs.Reading.Machine.{Phase, Hole, Frame, Work, State, Part, item, star_of, plus_of, begin, ixml, version_next, prolog_stop, rule_start, rule_next, rule_marked, rule_named, alt_start, want, marked, at_marked, inserting, excluding, set_start, member_next, bound_read, range_to, member_read, item_read, term_read}
+use Rattle.ix_model.specs.Spelling.Spells.{is_class}
+use Rattle.ix_spelling_laws.specs.Reading.Lexing.{Lexeme, word, quote, hex, at, caret, dash, colon, equals, semi, bar, comma, stop, question, star, stars, plus, pluses, open_group, close_group, open_set, close_set, tilde}
+use Rattle.ix_spelling_laws.specs.Reading.Machine as M
+use Rattle.ix_spelling_laws.specs.Reading.Machine.{Phase, Hole, Frame, Work, State, Part, item, star_of, plus_of, begin, ixml, version_next, prolog_stop, rule_start, rule_next, rule_marked, rule_named, alt_start, want, marked, at_marked, inserting, excluding, set_start, member_next, bound_read, range_to, member_read, item_read, term_read}
 use Rattle.ix_reader.specs.Parentheses.{turn}
 use Rattle.ix_reader.proofs.Folded.{greatest_push, factor_depth, term_depth, terms_depth, alts_depth, rule_depth, rules_depth, depth_lit, depth_set, depth_call, depth_insert, depth_group, depth_one, depth_opt, depth_star, depth_star_by, depth_plus, depth_plus_by, depth_alt}
-use Rattle.ix_model.specs.Size.{factor_size, term_size}
+use Rattle.ix_model.specs.Grammars.Size.{factor_size, term_size}
 use Rattle.ix_model.proofs.Sizes.{sum_push, terms_size, alts_size, rules_size, size_lit, size_set, size_call, size_insert, size_group, size_one, size_opt, size_star, size_star_by, size_plus, size_plus_by, size_alt}
-use Rattle.ix_model.specs.Depth as D
-use Rattle.ix_model.specs.Size as Z
+use Rattle.ix_model.specs.Spelling.Depth as D
+use Rattle.ix_model.specs.Grammars.Size as Z
 
 -- ---- the measures
 

@@ -8,10 +8,10 @@ use Rattle.ix_model.specs.declared.grammar.Bound.{Bound}
 use Rattle.ix_model.specs.declared.grammar.Member.TheVariants as member
 use Rattle.ix_model.specs.declared.grammar.Term.{One}
 use Rattle.ix_model.specs.declared.grammar.Factor.{Factor, Group}
-use Rattle.ix_model.specs.Spells.{is_class}
-use Rattle.ix_model.specs.Reading.Lexing.{Token, Lexeme, word, quote, hex, at, caret, dash, colon, equals, semi, bar, comma, stop, question, star, stars, plus, pluses, open_group, close_group, open_set, close_set, tilde}
-use Rattle.ix_model.specs.Reading.Machine as M
-use Rattle.ix_model.specs.Reading.Machine.{Phase, Hole, Frame, Work, State, Part, item, star_of, plus_of, begin, ixml, version_next, prolog_stop, rule_start, rule_next, rule_marked, rule_named, alt_start, want, marked, at_marked, inserting, excluding, set_start, member_next, bound_read, range_to, member_read, item_read, term_read}
+use Rattle.ix_model.specs.Spelling.Spells.{is_class}
+use Rattle.ix_spelling_laws.specs.Reading.Lexing.{Token, Lexeme, word, quote, hex, at, caret, dash, colon, equals, semi, bar, comma, stop, question, star, stars, plus, pluses, open_group, close_group, open_set, close_set, tilde}
+use Rattle.ix_spelling_laws.specs.Reading.Machine as M
+use Rattle.ix_spelling_laws.specs.Reading.Machine.{Phase, Hole, Frame, Work, State, Part, item, star_of, plus_of, begin, ixml, version_next, prolog_stop, rule_start, rule_next, rule_marked, rule_named, alt_start, want, marked, at_marked, inserting, excluding, set_start, member_next, bound_read, range_to, member_read, item_read, term_read}
 use Rattle.ix_reader.specs.Outline.{is_separator, separators, holes, bare, bare_hole, no_part, no_bound, no_factor, Outline, outline, whether}
 
 -- the two go on alike

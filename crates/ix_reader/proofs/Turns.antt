@@ -2,14 +2,14 @@
 use Rattle.std.proofs.Common.{◌≡◌, refl, ap, ◌∙◌, subst, ℕ, ◌+◌, ◌<◌, ◌≤◌, List, [], ◌∷◌, length, drop, Option, Some, arith, slice_index_or}
 use Rattle.std.proofs.lemmas.List.{drop_more}
 use Rattle.std.specs.Prelude.{max, nat_lt}
-use Rattle.ix_model.specs.Reading.Lexing as L
+use Rattle.ix_spelling_laws.specs.Reading.Lexing as L
 use Rattle.ix_lex.specs.declared.token.Token.{Token}
 use Rattle.ix_lex.specs.declared.token.Tok.TheVariants.{Quote}
 use Rattle.ix_lex.specs.Spans.{AreTokens, chars_of, lexeme_of, lexed}
 use Rattle.ix_lex.specs.Strings.{IsString}
 use Rattle.ix_lex.proofs.Standing.{quotes_whole}
 use Rattle.ix_reader.specs.Parentheses.{turn, deepest}
-use Rattle.ix_model.specs.Reading.Machine as M
+use Rattle.ix_spelling_laws.specs.Reading.Machine as M
 
 module _ (c : List ℕ) (ts : List Token) (d : Token) where
   -- the token that comes, before those behind it

@@ -3,7 +3,7 @@ use Rattle.std.proofs.Common.{◌≡◌, refl, ap, List, [], ◌∷◌, ◌++◌
 use Rattle.std.specs.Prelude.{map, ℕ, Bool, ◌==◌, ◌&&◌}
 use Rattle.std.specs.Cmp.Lexicographic.{pointwise}
 use Rattle.std.proofs.lemmas.List.{reverse-append}
-use Rattle.ix_model.specs.Reading.Machine as M
+use Rattle.ix_spelling_laws.specs.Reading.Machine as M
 use Rattle.ix_model.specs.declared.grammar.Bound.{Bound}
 use Rattle.ix_model.specs.declared.grammar.Factor.{Factor}
 use Rattle.ix_model.specs.declared.grammar.Term.{One}

@@ -2,12 +2,12 @@
 use Rattle.std.proofs.Common.{◌≡◌, refl, ap, sym, ◌∙◌, subst, ℕ, ◌<◌, ◌≤◌, List, length, Option, Some, None, Result, Ok, Err, arith}
 use Rattle.std.specs.Prelude.{IfOk}
 use Rattle.ix_model.specs.declared.grammar.Grammar.{Grammar}
-use Rattle.ix_model.specs.Spells.{Spells}
-use Rattle.ix_model.specs.Depth.{depth}
-use Rattle.ix_model.specs.Reading.Lexing.{Token, Lexes}
-use Rattle.ix_model.specs.Reading.Machine as M
-use Rattle.ix_model.proofs.ReadingSound.{reads_spelled}
-use Rattle.ix_model.proofs.ReadingComplete.{spelled_reads, lexes_once}
+use Rattle.ix_model.specs.Spelling.Spells.{Spells}
+use Rattle.ix_model.specs.Spelling.Depth.{depth}
+use Rattle.ix_spelling_laws.specs.Reading.Lexing.{Token, Lexes}
+use Rattle.ix_spelling_laws.specs.Reading.Machine as M
+use Rattle.ix_spelling_laws.proofs.ReadingSound.{reads_spelled}
+use Rattle.ix_spelling_laws.proofs.ReadingComplete.{spelled_reads, lexes_once}
 use Rattle.ix_lex.specs.declared.token.Token as lex
 use Rattle.ix_lex.specs.Spans.{AreTokens, lexed}
 use Rattle.ix_lex.proofs.Standing.{stand_for}
@@ -15,7 +15,7 @@ use Rattle.ix_reader.specs.declared.read_fault.ReadFault.{ReadFault}
 use Rattle.ix_reader.specs.declared.read_fault.ReadFault.TheVariants.{NotIxml}
 use Rattle.ix_reader.specs.Outline.{whether}
 use Rattle.ix_reader.specs.Parentheses.{deepest}
-use Rattle.ix_model.specs.Size.{size}
+use Rattle.ix_model.specs.Grammars.Size.{size}
 use Rattle.ix_reader.specs.Views.{Gives}
 use Rattle.ix_reader.proofs.Measured.{run_measures}
 use Rattle.ix_reader.proofs.Turns.{few_tokens, as_many}

@@ -1,7 +1,7 @@
 -- Tokens and states of the worked examples.
 use Rattle.std.specs.Prelude.{true, false, List, [], ◌∷◌, None, codes}
-use Rattle.ix_model.specs.Reading.Lexing.{Lexeme, Token, open_group, close_group}
-use Rattle.ix_model.specs.Reading.Machine.{State, rule_named, set_start, start}
+use Rattle.ix_spelling_laws.specs.Reading.Lexing.{Lexeme, Token, open_group, close_group}
+use Rattle.ix_spelling_laws.specs.Reading.Machine.{State, rule_named, set_start, start}
 
 abbrev pub alone : Lexeme → Token
 alone lexeme = record { gap = false; lexeme = lexeme }

@@ -4,7 +4,7 @@ use Rattle.ix_model.specs.declared.grammar.Factor.{Factor, Call}
 use Rattle.ix_model.specs.declared.grammar.Bound.{Bound}
 use Rattle.ix_model.specs.declared.grammar.Bound.TheVariants as bound
 use Rattle.ix_model.specs.declared.grammar.Grammar.{Grammar}
-use Rattle.ix_model.specs.Reading.Machine.{Phase, Hole, Frame, Work, State, Part, item, star_of, plus_of, set_start, member_next, bound_read, range_to, member_read, item_read}
+use Rattle.ix_spelling_laws.specs.Reading.Machine.{Phase, Hole, Frame, Work, State, Part, item, star_of, plus_of, set_start, member_next, bound_read, range_to, member_read, item_read}
 
 -- whether the factor that comes is a separator
 abbrev pub is_separator : Hole → Bool

@@ -1,6 +1,6 @@
 -- The parentheses among the tokens of a grammar, and how many are open at once.
 use Rattle.std.specs.Prelude.{ℕ, ◌+◌, ◌-◌, max, List, [], ◌∷◌}
-use Rattle.ix_model.specs.Reading.Lexing.{Lexeme, Token, open_group, close_group}
+use Rattle.ix_spelling_laws.specs.Reading.Lexing.{Lexeme, Token, open_group, close_group}
 
 -- how many are open behind the token, where n are open before it
 abbrev pub turn : ℕ → Lexeme → ℕ

@@ -12,8 +12,8 @@ use Rattle.ix_reader.specs.declared.machine.Frame.{Frame}
 use Rattle.ix_reader.specs.declared.machine.Part.{Part}
 use Rattle.ix_reader.specs.declared.machine.Work.{Work}
 use Rattle.ix_reader.specs.declared.machine.State.{State}
-use Rattle.ix_model.specs.Reading.Lexing as L
-use Rattle.ix_model.specs.Reading.Machine as M
+use Rattle.ix_spelling_laws.specs.Reading.Lexing as L
+use Rattle.ix_spelling_laws.specs.Reading.Machine as M
 
 abbrev pub lexeme_of : Lexeme → L.Lexeme
 lexeme_of (lexeme.Word name) = L.word name

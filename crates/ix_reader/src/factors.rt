@@ -1,7 +1,7 @@
 //! Factors: what each token does where one begins, and what becomes of one that is complete.
 
 ghost use Rattle.std.specs.Prelude.{Bool, ◌≡◌, ◌++◌, ◌∷◌, [], IfOk, Some};
-ghost use Rattle.ix_model.specs.Reading.Machine.{factor_done, no_frame, with_term, opened, start_factor, mark_for, marked_factor, step, at_marked, inserting};
+ghost use Rattle.ix_spelling_laws.specs.Reading.Machine.{factor_done, no_frame, with_term, opened, start_factor, mark_for, marked_factor, step, at_marked, inserting};
 ghost use Rattle.ix_model.specs.declared.grammar.Factor.{Lit};
 ghost use Rattle.ix_reader.specs.Views.{Gives, lexeme_of, frame_of, part_of, work_of, state_of};
 

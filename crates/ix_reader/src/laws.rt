@@ -1,7 +1,7 @@
 //! Laws of the definitions. The contract is the law, and the body is empty.
 
 ghost use Rattle.std.specs.Prelude.{◌≡◌, ℕ, [], Some, None, Ok, Err};
-ghost use Rattle.ix_model.specs.Reading.Machine.{start};
+ghost use Rattle.ix_spelling_laws.specs.Reading.Machine.{start};
 ghost use Rattle.ix_reader.specs.Examples.{excluding_set, named, one_pair, parenthesised};
 ghost use Rattle.ix_reader.specs.Outline.{IsBare};
 ghost use Rattle.ix_reader.specs.Parentheses.{deepest};

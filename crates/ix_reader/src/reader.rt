@@ -2,16 +2,16 @@
 
 ghost use Rattle.std.specs.Prelude.{◌≡◌, ◌≤◌, ◌<◌, length, IfOk, Err, nat_lt};
 ghost use Rattle.ix_model.specs.declared.grammar.Grammar.{Grammar};
-ghost use Rattle.ix_model.specs.Spells.{Spells};
-ghost use Rattle.ix_model.specs.Depth.{depth};
-ghost use Rattle.ix_model.specs.Reading.Machine.{step, run, start};
+ghost use Rattle.ix_model.specs.Spelling.Spells.{Spells};
+ghost use Rattle.ix_model.specs.Spelling.Depth.{depth};
+ghost use Rattle.ix_spelling_laws.specs.Reading.Machine.{step, run, start};
 ghost use Rattle.ix_lex.specs.Spans.{AreTokens, chars_of, lexeme_of, lexed};
 ghost use Rattle.ix_lex.specs.Strings.{IsString};
 ghost use Rattle.ix_lex.specs.declared.token.Tok.TheVariants.{Quote};
 ghost use Rattle.ix_reader.specs.declared.read_fault.ReadFault.TheVariants.{NotIxml, TooDeep};
 ghost use Rattle.ix_reader.specs.Outline.{whether};
 ghost use Rattle.ix_reader.specs.Parentheses.{deepest};
-ghost use Rattle.ix_model.specs.Size.{size};
+ghost use Rattle.ix_model.specs.Grammars.Size.{size};
 ghost use Rattle.ix_reader.specs.Views.{Gives, phase_of, work_of, state_of};
 
 use crate::lexemes::{lexeme, turn};

@@ -1,7 +1,7 @@
 //! The prolog, and what stands of a rule before its alternatives.
 
 ghost use Rattle.std.specs.Prelude.{Bool, ◌≡◌, [], Some, codes};
-ghost use Rattle.ix_model.specs.Reading.Machine.{is_text, named, rule_named, rule_marked, start_rule, begin_rule, open_rule, behind_ixml, step, version_next, prolog_stop, rule_next};
+ghost use Rattle.ix_spelling_laws.specs.Reading.Machine.{is_text, named, rule_named, rule_marked, start_rule, begin_rule, open_rule, behind_ixml, step, version_next, prolog_stop, rule_next};
 ghost use Rattle.ix_reader.specs.Views.{Gives, lexeme_of, work_of, state_of};
 
 use crate::factors::no_frame;

@@ -1,8 +1,8 @@
 //! Sets: their members and the bounds of their ranges.
 
 ghost use Rattle.std.specs.Prelude.{Bool, ◌≡◌, ◌++◌, ◌∷◌, [], IfOk, Some};
-ghost use Rattle.ix_model.specs.Spells.{is_class};
-ghost use Rattle.ix_model.specs.Reading.Machine.{with_member, member_of, set_done, quoted_member, quoted_bound, start_member, end_member, step, excluding, set_start, bound_read, range_to};
+ghost use Rattle.ix_model.specs.Spelling.Spells.{is_class};
+ghost use Rattle.ix_spelling_laws.specs.Reading.Machine.{with_member, member_of, set_done, quoted_member, quoted_bound, start_member, end_member, step, excluding, set_start, bound_read, range_to};
 ghost use Rattle.ix_reader.specs.Views.{Gives, lexeme_of, part_of, work_of, state_of};
 
 use crate::factors::{factor_done, no_part};

@@ -1,6 +1,6 @@
 //! A step of the reading.
 
-ghost use Rattle.ix_model.specs.Reading.Machine.{step, final, start};
+ghost use Rattle.ix_spelling_laws.specs.Reading.Machine.{step, final, start};
 ghost use Rattle.std.specs.Prelude.{◌≡◌, [], None};
 ghost use Rattle.ix_reader.specs.Views.{Gives, lexeme_of, phase_of, work_of, state_of};
 

@@ -1,7 +1,7 @@
 //! Terms, alternatives, and what closes around them.
 
 ghost use Rattle.std.specs.Prelude.{Bool, ◌≡◌, ◌++◌, ◌∷◌, [], IfOk};
-ghost use Rattle.ix_model.specs.Reading.Machine.{complete, close, end_rule, end_alt, with_hole, end_term, end_item, fresh, step, alt_start};
+ghost use Rattle.ix_spelling_laws.specs.Reading.Machine.{complete, close, end_rule, end_alt, with_hole, end_term, end_item, fresh, step, alt_start};
 ghost use Rattle.ix_reader.specs.Views.{Gives, lexeme_of, hole_of, frame_of, frames_of, work_of, state_of};
 
 use crate::factors::{factor_done, no_frame, start_factor, with_term};

@@ -4,7 +4,7 @@ use Rattle.std.proofs.lemmas.Bool.{and_parts, or_cases, or_left, or_right, both_
 use Rattle.regex_class.specs.Ranges.{Range, in_ranges, rises_from, IsCanonical}
 use Rattle.regex_class.proofs.RangesLemmas.{in_range_tells, fits_from-true}
 use Rattle.ix_sets.specs.CharRanges.{char_range}
-use Rattle.ix_model.specs.Ranges.{IsInRanges, AreAfter, AreApart}
+use Rattle.ix_model.specs.Matching.Ranges.{IsInRanges, AreAfter, AreApart}
 
 rises_parts : (n : ℕ) (r : Range) (rs : List Range) → rises_from n (r ∷ rs) ≡ true → (n ≤ r.0) × (r.0 ≤ r.1) × (rises_from (r.1 + 2) rs ≡ true)
 unfolding rises_from

@@ -7,7 +7,7 @@ use Rattle.regex_class.specs.Ranges.{Range, in_range, in_ranges, HasExactly}
 use Rattle.regex_class.specs.declared.Class.{Class}
 use Rattle.regex_class.proofs.RangesLemmas.{in_ranges-nil, in_ranges-above_max}
 use Rattle.ix_model.specs.declared.grammar.Member.{Member}
-use Rattle.ix_model.specs.Sets.{IsOfSome, InSet}
+use Rattle.ix_model.specs.Matching.Sets.{IsOfSome, InSet}
 use Rattle.ix_sets.specs.Gains.{Gains}
 
 -- up to the greatest character, the ranges hold what P is true of

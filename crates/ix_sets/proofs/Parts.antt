@@ -1,8 +1,8 @@
 -- Members of a set, one by one.
-use Rattle.std.proofs.Common.{◌≡◌, ℕ, ◌<◌, List, [], ◌∷◌, ◌++◌, length, get_or, zero, suc, inl, inr, Any, IsTrue, ◌⊎◌, ⊎_elim, flat_map, not-suc-le-zero, le_of_suc-le-suc}
+use Rattle.std.proofs.Common.{◌≡◌, ℕ, ◌<◌, List, [], ◌∷◌, length, get_or, zero, suc, inl, inr, Any, IsTrue, ◌⊎◌, ⊎_elim, flat_map, not-suc-le-zero, le_of_suc-le-suc}
 use Rattle.std.specs.List.{AllByRecursion}
 use Rattle.ix_model.specs.declared.grammar.Member.{Member}
-use Rattle.ix_model.specs.Sets.{IsOneOf, IsOfMember, IsOfSome}
+use Rattle.ix_model.specs.Matching.Sets.{IsOneOf, IsOfMember, IsOfSome}
 use Rattle.std.proofs.lemmas.Bool.{or_cases, or_left, or_right}
 use Rattle.unicode.specs.GeneralCategory.{general_category}
 use Rattle.ix_model.specs.declared.grammar.Member.TheVariants as member

@@ -4,8 +4,8 @@ use Rattle.std.specs.Prelude.{ℕ, Bool, false}
 use Rattle.ucd_category.specs.declared.GeneralCategory.{GeneralCategory}
 use Rattle.ix_model.specs.declared.grammar.Member.{Member}
 use Rattle.ix_model.specs.declared.grammar.Member.TheVariants as member
-use Rattle.ix_model.specs.Classes.{code_of, is_code_in_class}
-use Rattle.ix_model.specs.Sets.{IsOfMember}
+use Rattle.ix_model.specs.Matching.Classes.{code_of, is_code_in_class}
+use Rattle.ix_model.specs.Matching.Sets.{IsOfMember}
 
 -- whether the member is a class that has the characters of the category
 abbrev pub has_category : GeneralCategory → Member → Bool

@@ -6,8 +6,8 @@ use Rattle.ix_model.specs.declared.char_set.CharRange.{CharRange}
 use Rattle.ix_model.specs.declared.grammar.Factor.{Factor, Set}
 use Rattle.ix_model.specs.declared.grammar.Member.{Member}
 use Rattle.ix_model.specs.declared.grammar.TMark.{TMark}
-use Rattle.ix_model.specs.Ranges.{IsInRanges}
-use Rattle.ix_model.specs.Sets.{InSet}
+use Rattle.ix_model.specs.Matching.Ranges.{IsInRanges}
+use Rattle.ix_model.specs.Matching.Sets.{InSet}
 
 -- the factor is a set
 abbrev pub IsSet : Factor → Type 0

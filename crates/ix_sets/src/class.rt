@@ -2,7 +2,7 @@
 
 ghost use Rattle.std.specs.Prelude.{◌≡◌, OnOk, IsTrue};
 ghost use Rattle.std.specs.List.{list_any};
-ghost use Rattle.ix_model.specs.Classes.{code_of, is_code_in_class};
+ghost use Rattle.ix_model.specs.Matching.Classes.{code_of, is_code_in_class};
 ghost use Rattle.ix_sets.specs.Gains.{Gains};
 ghost use Rattle.ix_sets.specs.Kinds.{has_category};
 ghost use Rattle.unicode.specs.GeneralCategory.{general_category};

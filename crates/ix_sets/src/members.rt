@@ -2,11 +2,11 @@
 
 ghost use Rattle.std.specs.Prelude.{◌≡◌, ◌≤◌, OnOk};
 ghost use Rattle.std.specs.List.{AllByRecursion, Any, flat_map};
-ghost use Rattle.ix_model.specs.Breach.{IsCodePoint};
-ghost use Rattle.ix_model.specs.Codes.{code_value, bound_value};
-ghost use Rattle.ix_model.specs.Factors.{codes_of_bound, codes_of_member};
-ghost use Rattle.ix_model.specs.Sets.{IsOneOf, IsOfSome};
-ghost use Rattle.ix_model.specs.Spells.{IsHex};
+ghost use Rattle.ix_model.specs.Grammars.Breach.{IsCodePoint};
+ghost use Rattle.ix_model.specs.Matching.Codes.{code_value, bound_value};
+ghost use Rattle.ix_model.specs.Grammars.Factors.{codes_of_bound, codes_of_member};
+ghost use Rattle.ix_model.specs.Matching.Sets.{IsOneOf, IsOfSome};
+ghost use Rattle.ix_model.specs.Spelling.Spells.{IsHex};
 ghost use Rattle.ix_sets.specs.Gains.{Gains};
 ghost use Rattle.ix_sets.specs.Kinds.{IsWritten};
 

@@ -3,11 +3,11 @@
 ghost use Rattle.std.specs.Prelude.{◌≡◌, ◌↔◌, ℕ, ◌≤◌, map, IfOk, IsTrue};
 ghost use Rattle.std.specs.Char.{IsScalar};
 ghost use Rattle.std.specs.List.{AllByRecursion, flat_map};
-ghost use Rattle.ix_model.specs.Breach.{IsCodePoint};
-ghost use Rattle.ix_model.specs.Factors.{codes_of_member, codes_of_factor};
-ghost use Rattle.ix_model.specs.Ranges.{IsInRanges};
-ghost use Rattle.ix_model.specs.Sets.{IsOfSome, InSet};
-ghost use Rattle.ix_model.specs.Spells.{IsHex};
+ghost use Rattle.ix_model.specs.Grammars.Breach.{IsCodePoint};
+ghost use Rattle.ix_model.specs.Grammars.Factors.{codes_of_member, codes_of_factor};
+ghost use Rattle.ix_model.specs.Matching.Ranges.{IsInRanges};
+ghost use Rattle.ix_model.specs.Matching.Sets.{IsOfSome, InSet};
+ghost use Rattle.ix_model.specs.Spelling.Spells.{IsHex};
 ghost use Rattle.ix_sets.specs.CharRanges.{char_range};
 ghost use Rattle.ix_sets.specs.SetOf.{IsSet, IsSetOf};
 ghost use Rattle.regex_class.specs.Ranges.{in_ranges};

@@ -3,7 +3,7 @@ use Rattle.std.proofs.Common.{◌≡◌, refl, ap, sym, ◌∙◌, ℕ, zero, su
 use Rattle.std.proofs.lemmas.List.{drop_more}
 use Rattle.ix_model.specs.declared.rules.Line.{Line}
 use Rattle.ix_model.specs.declared.rules.Flat.{Flat}
-use Rattle.ix_model.specs.Numbering.{dots_from, alts_from, rules_from}
+use Rattle.ix_model.specs.Expansion.Numbering.{dots_from, alts_from, rules_from}
 
 length_dots : (r a dot n : ℕ) → length (dots_from r a dot n) ≡ n + 1
 length_dots r a dot zero = refl

@@ -1,7 +1,7 @@
 -- The slots of an alternative, counted from the front.
 use Rattle.std.proofs.Common.{◌≡◌, refl, ap, ◌∙◌, ℕ, zero, suc, ◌+◌, List, [], ◌∷◌, arith}
 use Rattle.ix_model.specs.declared.plan.SlotInfo.{SlotInfo}
-use Rattle.ix_model.specs.Numbering.{slot, dots_from}
+use Rattle.ix_model.specs.Expansion.Numbering.{slot, dots_from}
 
 -- so many slots of an alternative, from a dot on
 abbrev pub dots : ℕ → ℕ → ℕ → ℕ → List SlotInfo

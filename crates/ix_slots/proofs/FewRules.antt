@@ -9,9 +9,9 @@ use Rattle.ix_model.specs.declared.grammar.Term.{Term, Star, Plus}
 use Rattle.ix_model.specs.declared.grammar.Factor.{Factor}
 use Rattle.ix_model.specs.declared.rules.Sym.{Sym}
 use Rattle.ix_model.specs.declared.rules.Rules.{Rules}
-use Rattle.ix_model.specs.Expanded as X
-use Rattle.ix_model.specs.Expanded.{Next, TermBecomes, RepeatBecomes, SeparatorBecomes, FactorBecomes, AltsBecome, TermsBecome, RulesBecome, Expanded}
-use Rattle.ix_model.specs.Size.{factor_size, term_size, alt_size, rule_size, size}
+use Rattle.ix_model.specs.Expansion.Expanded as X
+use Rattle.ix_model.specs.Expansion.Expanded.{Next, TermBecomes, RepeatBecomes, SeparatorBecomes, FactorBecomes, AltsBecome, TermsBecome, RulesBecome, Expanded}
+use Rattle.ix_model.specs.Grammars.Size.{factor_size, term_size, alt_size, rule_size, size}
 use Rattle.ix_model.proofs.Sizes.{terms_size, alts_size, rules_size, size_group, size_one, size_opt, size_star, size_star_by, size_plus, size_plus_by, size_alt}
 
 sum_next : {A : Type 0} (f : A → ℕ) (x : A) (xs : List A) → sum (map f (x ∷ xs)) ≡ f x + sum (map f xs)

@@ -4,11 +4,11 @@ use Rattle.std.specs.Prelude.{◌↔◌, unwrap_or, option_map}
 use Rattle.ix_model.specs.declared.rules.Kind.TheVariants.{Named}
 use Rattle.ix_model.specs.declared.rules.Sym.{Sym}
 use Rattle.ix_model.specs.declared.rules.Line.{Line}
-use Rattle.ix_model.specs.Expanded.{line}
-use Rattle.ix_model.specs.ExampleRules.{shown}
-use Rattle.ix_model.specs.Numbered.{kind_at}
-use Rattle.ix_model.specs.Numbering.{alts_from, numbering}
-use Rattle.ix_model.specs.Planned.{IsThere, AreThere}
+use Rattle.ix_model.specs.Expansion.Expanded.{line}
+use Rattle.ix_examples.specs.SmallRules.{shown}
+use Rattle.ix_model.specs.Expansion.Numbered.{kind_at}
+use Rattle.ix_model.specs.Expansion.Numbering.{alts_from, numbering}
+use Rattle.ix_model.specs.Expansion.Planned.{IsThere, AreThere}
 use Rattle.ix_slots.specs.Examples.{many_rules}
 use Rattle.ix_slots.specs.Plannable.{IsPlannable}
 

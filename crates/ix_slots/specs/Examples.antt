@@ -3,8 +3,8 @@ use Rattle.std.specs.Prelude.{ℕ, [], ◌∷◌, codes, replicate}
 use Rattle.ix_model.specs.declared.rules.Kind.TheVariants.{Named}
 use Rattle.ix_model.specs.declared.rules.Rules.{Rules}
 use Rattle.ix_model.specs.declared.rules.Terminal.TheVariants.{Lit, Set}
-use Rattle.ix_model.specs.Expanded.{line}
-use Rattle.ix_model.specs.ExampleRules.{rules_of, flat, shown, range}
+use Rattle.ix_model.specs.Expansion.Expanded.{line}
+use Rattle.ix_examples.specs.SmallRules.{rules_of, flat, shown, range}
 
 -- of S: "ab", ["0"-"9"]; .
 abbrev pub example_rules : Rules

@@ -2,9 +2,9 @@
 use Rattle.std.specs.Prelude.{◌<◌, ◌≤◌, ◌*◌, ℕ, List, length}
 use Rattle.ix_model.specs.declared.grammar.Grammar.{Grammar}
 use Rattle.ix_model.specs.declared.rules.Rules.{Rules}
-use Rattle.ix_model.specs.Numbering.{numbering}
-use Rattle.ix_model.specs.Expanded.{Expanded}
-use Rattle.ix_model.specs.Size.{size}
+use Rattle.ix_model.specs.Expansion.Numbering.{numbering}
+use Rattle.ix_model.specs.Expansion.Expanded.{Expanded}
+use Rattle.ix_model.specs.Grammars.Size.{size}
 use Rattle.ix_slots.specs.Plannable.{IsPlannable}
 
 -- the numbered rules of a grammar with a first rule can be planned for a text, where the grammar has a size of 1,048,576

@@ -1,9 +1,9 @@
 -- What rules and a text become as a plan, and which can become one. It is this project's own.
 use Rattle.std.specs.Prelude.{ℕ, List}
 use Rattle.ix_model.specs.declared.rules.Rules.{Rules}
-use Rattle.ix_model.specs.Parts.{Parts}
-use Rattle.ix_model.specs.Numbering.{numbering}
-use Rattle.ix_model.specs.Planned.{IsPlanned}
+use Rattle.ix_model.specs.Expansion.Parts.{Parts}
+use Rattle.ix_model.specs.Expansion.Numbering.{numbering}
+use Rattle.ix_model.specs.Expansion.Planned.{IsPlanned}
 
 -- the rules and the text, with the slots of the rules in the order of their numbers
 abbrev pub planned : Rules → List ℕ → Parts

@@ -1,7 +1,7 @@
 //! Laws and worked examples of the definitions. The contract is the law; the body is empty, or calls the law below it.
 ghost use Rattle.std.specs.Prelude.{◌≡◌, ◌≢◌, [], ◌∷◌, codes};
-ghost use Rattle.ix_model.specs.ExampleRules.{rules_of, only, shown};
-ghost use Rattle.ix_model.specs.Numbering.{slot};
+ghost use Rattle.ix_examples.specs.SmallRules.{rules_of, only, shown};
+ghost use Rattle.ix_model.specs.Expansion.Numbering.{slot};
 ghost use Rattle.ix_slots.specs.Laws.{ExpandedIsPlannable};
 ghost use Rattle.ix_slots.specs.Plannable.{planned, IsPlannable};
 ghost use Rattle.ix_slots.specs.Examples.{example_rules};

@@ -1,8 +1,8 @@
 ghost use Rattle.std.specs.Prelude.{◌≡◌, ◌<◌, ◌≤◌, ◌^◌, ℕ, [], ◌∷◌, length, Some, IfSome};
-ghost use Rattle.ix_model.specs.Terminals.{StandsAt};
-ghost use Rattle.ix_model.specs.FlatDerives.{TerminalMatches};
-ghost use Rattle.ix_model.specs.Numbered.{terminal_at};
-ghost use Rattle.ix_model.specs.Ranges.{IsInRanges};
+ghost use Rattle.ix_model.specs.Matching.Terminals.{StandsAt};
+ghost use Rattle.ix_model.specs.Expansion.FlatDerives.{TerminalMatches};
+ghost use Rattle.ix_model.specs.Expansion.Numbered.{terminal_at};
+ghost use Rattle.ix_model.specs.Matching.Ranges.{IsInRanges};
 
 use ix_model::{CharSet, Plan, Terminal};
 use sqlite_items::at;

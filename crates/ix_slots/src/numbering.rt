@@ -1,6 +1,6 @@
 //! The numbering of slots.
 ghost use Rattle.std.specs.Prelude.{◌≡◌, ◌+◌, ◌^◌, ◌<◌, ◌++◌, length, IfOk, OnOk};
-ghost use Rattle.ix_model.specs.Numbering.{dots_from, alts_from, numbering};
+ghost use Rattle.ix_model.specs.Expansion.Numbering.{dots_from, alts_from, numbering};
 
 use ix_model::{Flat, Line, SlotInfo};
 use std::alloc::{AllocError, Global};

@@ -1,6 +1,6 @@
 ghost use Rattle.std.specs.Prelude.{◌≡◌, ◌<◌, ◌^◌, [], ◌∷◌, replicate, IfOk};
-ghost use Rattle.ix_model.specs.Expanded.{line};
-ghost use Rattle.ix_model.specs.ExampleRules.{shown};
+ghost use Rattle.ix_model.specs.Expansion.Expanded.{line};
+ghost use Rattle.ix_examples.specs.SmallRules.{shown};
 ghost use Rattle.ix_slots.specs.Examples.{example_rules, many_rules};
 
 use crate::{into_parts, matches, plan};

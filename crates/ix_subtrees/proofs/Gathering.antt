@@ -6,8 +6,8 @@ use Rattle.std.specs.Option.{option_to_list}
 use Rattle.std.proofs.lemmas.List.Elements.{All-from_get_or}
 use Rattle.std.proofs.lemmas.List.{append-nil, get_or_default, get_or_append_left, get_or_push, length_push}
 use Rattle.ix_model.specs.declared.sub.Sub.{Sub}
-use Rattle.ix_model.specs.Parts.{Parts}
-use Rattle.ix_model.specs.Useful.{sub_at, Useful}
+use Rattle.ix_model.specs.Expansion.Parts.{Parts}
+use Rattle.ix_model.specs.Closure.Useful.{sub_at, Useful}
 use Rattle.ix_subtrees.specs.declared.entry.Entry.{Entry}
 use Rattle.ix_subtrees.specs.Entries.{entry_at, entry_for, IsFitEntry, SameMembers}
 use Rattle.ix_subtrees.specs.Subs.{no_sub}

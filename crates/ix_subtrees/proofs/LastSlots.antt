@@ -2,11 +2,11 @@
 use Rattle.std.proofs.Common.{◌≡◌, refl, ap, sym, subst, ◌<◌, ℕ, length, None}
 use Rattle.std.proofs.lemmas.Option.{get_or_from_slice_get}
 use Rattle.ix_model.specs.declared.plan.SlotInfo.{SlotInfo}
-use Rattle.ix_model.specs.Parts.{Parts}
-use Rattle.ix_model.specs.Planned.{IsPlanned}
-use Rattle.ix_model.specs.Numbering.{slot}
-use Rattle.ix_model.specs.Slots.{IsSlot, info_at, sym_after}
-use Rattle.ix_model.specs.FlatDerives.{IsLine}
+use Rattle.ix_model.specs.Expansion.Parts.{Parts}
+use Rattle.ix_model.specs.Expansion.Planned.{IsPlanned}
+use Rattle.ix_model.specs.Expansion.Numbering.{slot}
+use Rattle.ix_model.specs.Expansion.Slots.{IsSlot, info_at, sym_after}
+use Rattle.ix_model.specs.Expansion.FlatDerives.{IsLine}
 use Rattle.ix_model.proofs.SlotReaders.{last_reads, reads_last}
 use Rattle.ix_subtrees.specs.Sets.{IsLastOf}
 

@@ -10,17 +10,17 @@ use Rattle.ix_model.specs.declared.grammar.Mark.{Mark}
 use Rattle.ix_model.specs.declared.rules.Sym.{Sym}
 use Rattle.ix_model.specs.declared.rules.Sym.TheVariants as S
 use Rattle.ix_model.specs.declared.sub.Sub.{Sub}
-use Rattle.ix_model.specs.Planned.{IsPlanned}
-use Rattle.ix_model.specs.Slots.{info_at, sym_after}
-use Rattle.ix_model.specs.Terminals.{StandsAt}
-use Rattle.ix_model.specs.FlatDerives.{IsTerminal}
-use Rattle.ix_model.specs.SlotPlaces.{HasNext, IsFirst, IsLast}
-use Rattle.ix_model.specs.Closed.{Called, start, by_edge, Desc, begun, arrived, Edge, waiting, End, ended, Part, empty, scanned, inserted, joined}
-use Rattle.ix_model.specs.Useful.{sub_at}
-use Rattle.ix_model.specs.ExamplePlans.{call, literal}
-use Rattle.ix_model.proofs.ClosedWithin.{part_within}
+use Rattle.ix_model.specs.Expansion.Planned.{IsPlanned}
+use Rattle.ix_model.specs.Expansion.Slots.{info_at, sym_after}
+use Rattle.ix_model.specs.Matching.Terminals.{StandsAt}
+use Rattle.ix_model.specs.Expansion.FlatDerives.{IsTerminal}
+use Rattle.ix_model.specs.Expansion.SlotPlaces.{HasNext, IsFirst, IsLast}
+use Rattle.ix_model.specs.Closure.Closed.{Called, start, by_edge, Desc, begun, arrived, Edge, waiting, End, ended, Part, empty, scanned, inserted, joined}
+use Rattle.ix_model.specs.Closure.Useful.{sub_at}
+use Rattle.ix_examples.specs.SmallPlans.{call, literal}
+use Rattle.ix_closure_laws.proofs.ClosedWithin.{part_within}
 use Rattle.ix_model.proofs.SlotReaders.{first_reads, last_reads, next_reads}
-use Rattle.ix_model.proofs.SmallPlans.{literal_stands}
+use Rattle.ix_examples.proofs.SmallPlans.{literal_stands}
 use Rattle.ix_subtrees.specs.Nodes.{Among}
 use Rattle.ix_subtrees.specs.Examples.{left_recursive, left_recursive_subs}
 use Rattle.ix_subtrees.specs.Laws.{LeftRecursiveIsListed, LeftRecursiveIsListedOnce}

@@ -3,8 +3,8 @@ use Rattle.std.proofs.Common.{◌≡◌, ◌≢◌, refl, ap, sym, subst, ◌↔
 use mathlib.Core.Logic.{inl, inr}
 use Rattle.std.specs.List.{Contains}
 use Rattle.ix_model.specs.declared.sub.Sub.{Sub}
-use Rattle.ix_model.specs.Slots.{info_at, sym_after}
-use Rattle.ix_model.specs.Useful.{sub_at, Useful}
+use Rattle.ix_model.specs.Expansion.Slots.{info_at, sym_after}
+use Rattle.ix_model.specs.Closure.Useful.{sub_at, Useful}
 use Rattle.ix_subtrees.specs.declared.entry.Entry.{Entry}
 use Rattle.ix_subtrees.specs.Nodes.{Among}
 use Rattle.ix_subtrees.specs.Entries.{entry_for, AreInOrder}

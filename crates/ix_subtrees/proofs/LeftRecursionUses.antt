@@ -4,13 +4,13 @@ use mathlib.Core.Logic.{inl, inr}
 use Rattle.std.specs.List.{Contains}
 use Rattle.std.proofs.lemmas.List.{length-replicate}
 use Rattle.ix_model.specs.declared.sub.Sub.{Sub}
-use Rattle.ix_model.specs.Closed.{Part}
-use Rattle.ix_model.specs.Useful.{sub_at, Useful}
-use Rattle.ix_model.specs.Reached.{RuleReached, root, as_child, SubReached, as_last, as_prefix}
-use Rattle.ix_model.specs.ExamplePlans.{literal}
-use Rattle.ix_model.proofs.ClosedWithin.{part_within}
-use Rattle.ix_model.proofs.Frames.{useful_of}
-use Rattle.ix_model.proofs.Reaching.{reached_part, useful_reached}
+use Rattle.ix_model.specs.Closure.Closed.{Part}
+use Rattle.ix_model.specs.Closure.Useful.{sub_at, Useful}
+use Rattle.ix_closure_laws.specs.Reached.{RuleReached, root, as_child, SubReached, as_last, as_prefix}
+use Rattle.ix_examples.specs.SmallPlans.{literal}
+use Rattle.ix_closure_laws.proofs.ClosedWithin.{part_within}
+use Rattle.ix_closure_laws.proofs.Frames.{useful_of}
+use Rattle.ix_closure_laws.proofs.Reaching.{reached_part, useful_reached}
 use Rattle.ix_subtrees.specs.Examples.{left_recursive, left_recursive_subs}
 use Rattle.ix_subtrees.specs.Laws.{LeftRecursiveIsUseful}
 use Rattle.ix_subtrees.proofs.LeftRecursion.{planned_left, IsNext, next_left, last_left, IsOneOf, part_left, next_0, next_1, last_2, last_3, empty_part, part_up_to, letter_part, end_at, parts_left}

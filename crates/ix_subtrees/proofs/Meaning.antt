@@ -11,17 +11,17 @@ use Rattle.ix_model.specs.declared.grammar.Mark.{Mark}
 use Rattle.ix_model.specs.declared.rules.Sym.{Sym}
 use Rattle.ix_model.specs.declared.rules.Sym.TheVariants as S
 use Rattle.ix_model.specs.declared.sub.Sub.{Sub}
-use Rattle.ix_model.specs.Parts.{Parts}
-use Rattle.ix_model.specs.Planned.{IsPlanned}
-use Rattle.ix_model.specs.Slots.{info_at, sym_after}
-use Rattle.ix_model.specs.SlotPlaces.{HasNext, IsLast}
-use Rattle.ix_model.specs.Closed.{Part}
-use Rattle.ix_model.specs.Useful.{Useful}
-use Rattle.ix_model.specs.Reached.{RuleReached, root, as_child, SubReached, as_last, as_prefix}
+use Rattle.ix_model.specs.Expansion.Parts.{Parts}
+use Rattle.ix_model.specs.Expansion.Planned.{IsPlanned}
+use Rattle.ix_model.specs.Expansion.Slots.{info_at, sym_after}
+use Rattle.ix_model.specs.Expansion.SlotPlaces.{HasNext, IsLast}
+use Rattle.ix_model.specs.Closure.Closed.{Part}
+use Rattle.ix_model.specs.Closure.Useful.{Useful}
+use Rattle.ix_closure_laws.specs.Reached.{RuleReached, root, as_child, SubReached, as_last, as_prefix}
 use Rattle.ix_model.proofs.SlotReaders.{next_reads, reads_last, reads_next}
-use Rattle.ix_model.proofs.ClosedWithin.{part_within}
-use Rattle.ix_model.proofs.Reaching.{reached_part, useful_reached}
-use Rattle.ix_model.proofs.Frames.{useful_of}
+use Rattle.ix_closure_laws.proofs.ClosedWithin.{part_within}
+use Rattle.ix_closure_laws.proofs.Reaching.{reached_part, useful_reached}
+use Rattle.ix_closure_laws.proofs.Frames.{useful_of}
 use Rattle.ix_subtrees.specs.declared.place.Place.{Place}
 use Rattle.ix_subtrees.specs.declared.node.Node.{Node}
 use Rattle.ix_subtrees.specs.Nodes.{span_code, node_code, code_at, no_node, Among, IsMarked}

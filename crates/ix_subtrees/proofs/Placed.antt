@@ -1,7 +1,7 @@
 -- The places of slots.
 use Rattle.std.proofs.Common.{◌≡◌, ap, sym, subst, ◌∙◌, ℕ, List, [], ◌∷◌, ◌++◌, length, Some, slice_get}
 use mathlib.Core.Logic.{inl, inr}
-use Rattle.ix_model.specs.Parts.{Parts}
+use Rattle.ix_model.specs.Expansion.Parts.{Parts}
 use Rattle.ix_subtrees.specs.declared.place.Place.{Place}
 use Rattle.ix_subtrees.specs.Places.{IsPlace}
 use Rattle.ix_subtrees.proofs.Lists.{get_pushed}

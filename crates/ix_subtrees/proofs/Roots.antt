@@ -1,8 +1,8 @@
 -- A subtree is listed exactly where the text has a derivation.
 use Rattle.std.proofs.Common.{◌<◌, List, length, arith}
 use Rattle.std.proofs.lemmas.List.{get_or_default}
-use Rattle.ix_model.specs.Parts.{Parts}
-use Rattle.ix_model.specs.UsefulLaws.{HasUseful}
+use Rattle.ix_model.specs.Expansion.Parts.{Parts}
+use Rattle.ix_closure_laws.specs.UsefulLaws.{HasUseful}
 use Rattle.ix_subtrees.specs.declared.entry.Entry.{Entry}
 use Rattle.ix_subtrees.specs.Entries.{entry_at, entry_for}
 use Rattle.ix_subtrees.specs.Sets.{sub_of_entry, AreWays}

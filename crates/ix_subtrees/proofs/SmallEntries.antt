@@ -2,8 +2,8 @@
 use Rattle.std.proofs.Common.{refl, ap, ℕ, zero, suc, [], ◌∷◌, arith}
 use mathlib.Core.Logic.{inl, inr}
 use Rattle.std.specs.List.{Contains}
-use Rattle.ix_model.specs.Useful.{sub_at}
-use Rattle.ix_model.proofs.SmallClosures.{part_1}
+use Rattle.ix_model.specs.Closure.Useful.{sub_at}
+use Rattle.ix_examples.proofs.SmallClosures.{part_1}
 use Rattle.ix_subtrees.specs.declared.entry.Entry.{Entry}
 use Rattle.ix_subtrees.specs.Nodes.{Among}
 use Rattle.ix_subtrees.specs.Entries.{entry_for}

@@ -4,18 +4,18 @@ use mathlib.Core.Logic.{inl, inr}
 use Rattle.ix_model.specs.declared.rules.Sym.{Sym}
 use Rattle.ix_model.specs.declared.rules.Sym.TheVariants as S
 use Rattle.ix_model.specs.declared.sub.Sub.{Sub}
-use Rattle.ix_model.specs.Parts.{Parts}
-use Rattle.ix_model.specs.Planned.{IsPlanned}
-use Rattle.ix_model.specs.Slots.{info_at, sym_after}
-use Rattle.ix_model.specs.FlatDerives.{IsTerminal}
-use Rattle.ix_model.specs.SlotPlaces.{HasNext, IsFirst, IsLast}
-use Rattle.ix_model.specs.Closed.{Called, start, by_edge, begun, arrived, Edge, waiting, End, ended, Part, empty, scanned, inserted, joined}
-use Rattle.ix_model.specs.Useful.{sub_at}
-use Rattle.ix_model.specs.ExamplePlans.{call, literal, only_a, cycle, two_alternatives}
-use Rattle.ix_model.proofs.ClosedWithin.{part_within}
+use Rattle.ix_model.specs.Expansion.Parts.{Parts}
+use Rattle.ix_model.specs.Expansion.Planned.{IsPlanned}
+use Rattle.ix_model.specs.Expansion.Slots.{info_at, sym_after}
+use Rattle.ix_model.specs.Expansion.FlatDerives.{IsTerminal}
+use Rattle.ix_model.specs.Expansion.SlotPlaces.{HasNext, IsFirst, IsLast}
+use Rattle.ix_model.specs.Closure.Closed.{Called, start, by_edge, begun, arrived, Edge, waiting, End, ended, Part, empty, scanned, inserted, joined}
+use Rattle.ix_model.specs.Closure.Useful.{sub_at}
+use Rattle.ix_examples.specs.SmallPlans.{call, literal, only_a, cycle, two_alternatives}
+use Rattle.ix_closure_laws.proofs.ClosedWithin.{part_within}
 use Rattle.ix_model.proofs.SlotReaders.{first_reads, last_reads, next_reads, reads_first, reads_last, reads_next}
-use Rattle.ix_model.proofs.SmallPlans.{planned_alternatives, literal_stands}
-use Rattle.ix_model.proofs.SmallClosures.{part_a, part_1, no_part_b, part_c, part_1c, part_3c}
+use Rattle.ix_examples.proofs.SmallPlans.{planned_alternatives, literal_stands}
+use Rattle.ix_examples.proofs.SmallClosures.{part_a, part_1, no_part_b, part_c, part_1c, part_3c}
 use Rattle.ix_subtrees.specs.Nodes.{Among}
 use Rattle.ix_subtrees.specs.UsefulSubs.{AreParts}
 use Rattle.ix_subtrees.specs.Examples.{repeated_nothing}

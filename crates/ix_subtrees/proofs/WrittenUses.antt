@@ -2,22 +2,21 @@
 use Rattle.std.proofs.Common.{sym, ap, ◌∙◌, None}
 use Rattle.ix_model.specs.declared.grammar.Grammar.{Grammar}
 use Rattle.ix_model.specs.declared.rules.Sym.TheVariants as sy
-use Rattle.ix_model.specs.Parts.{Parts}
-use Rattle.ix_model.specs.Planned.{IsPlanned}
-use Rattle.ix_model.specs.Trees.{Tree}
-use Rattle.ix_model.specs.Derives.{IsDerivation, Ambiguous}
-use Rattle.ix_model.specs.ExpansionLaws.{IsPlanOf}
-use Rattle.ix_model.specs.Lift.{lift}
-use Rattle.ix_model.specs.Lower.{lower}
-use Rattle.ix_model.specs.TwoWays.{HasTwoWays}
-use Rattle.ix_model.specs.UsefulLaws.{HasUseful}
-use Rattle.ix_model.proofs.Lifting.{lift_derives}
+use Rattle.ix_model.specs.Expansion.Parts.{Parts}
+use Rattle.ix_model.specs.Expansion.Planned.{IsPlanned, IsPlanOf}
+use Rattle.ix_model.specs.Derivations.Trees.{Tree}
+use Rattle.ix_model.specs.Derivations.Derives.{IsDerivation, Ambiguous}
+use Rattle.ix_model.specs.Expansion.Lift.{lift}
+use Rattle.ix_model.specs.Expansion.Lower.{lower}
+use Rattle.ix_closure_laws.specs.TwoWays.{HasTwoWays}
+use Rattle.ix_closure_laws.specs.UsefulLaws.{HasUseful}
+use Rattle.ix_expansion_laws.proofs.Lifting.{lift_derives}
 use Rattle.ix_model.proofs.Readers.{get_within}
-use Rattle.ix_model.proofs.LowerOfLift.{lower_lift}
-use Rattle.ix_model.proofs.Lowering.{lower_derives}
-use Rattle.ix_model.proofs.LiftOfLower.{lift_lower}
-use Rattle.ix_model.proofs.Frames.{tree_root, root_useful, useful_tree}
-use Rattle.ix_model.proofs.TwoTrees.{ambiguous_ways, ways_ambiguous}
+use Rattle.ix_expansion_laws.proofs.LowerOfLift.{lower_lift}
+use Rattle.ix_expansion_laws.proofs.Lowering.{lower_derives}
+use Rattle.ix_expansion_laws.proofs.LiftOfLower.{lift_lower}
+use Rattle.ix_closure_laws.proofs.Frames.{tree_root, root_useful, useful_tree}
+use Rattle.ix_closure_laws.proofs.TwoTrees.{ambiguous_ways, ways_ambiguous}
 
 module _ (g : Grammar) (plan : Parts) (p : IsPlanOf g plan) (planned : IsPlanned plan) where
   pub derived_useful : (d : Tree) → IsDerivation g plan.text d → HasUseful plan

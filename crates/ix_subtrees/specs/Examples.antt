@@ -7,11 +7,11 @@ use Rattle.ix_model.specs.declared.rules.Kind.TheVariants.{Named, Group, List as
 use Rattle.ix_model.specs.declared.rules.Line.{Line}
 use Rattle.ix_model.specs.declared.rules.Terminal.TheVariants.{Lit}
 use Rattle.ix_model.specs.declared.sub.Sub.{Sub}
-use Rattle.ix_model.specs.Parts.{Parts}
-use Rattle.ix_model.specs.Expanded.{line}
-use Rattle.ix_model.specs.Numbering.{numbering}
-use Rattle.ix_model.specs.Useful.{sub_at}
-use Rattle.ix_model.specs.ExamplePlans.{call, literal, named}
+use Rattle.ix_model.specs.Expansion.Parts.{Parts}
+use Rattle.ix_model.specs.Expansion.Expanded.{line}
+use Rattle.ix_model.specs.Expansion.Numbering.{numbering}
+use Rattle.ix_model.specs.Closure.Useful.{sub_at}
+use Rattle.ix_examples.specs.SmallPlans.{call, literal, named}
 use Rattle.ix_subtrees.specs.Entries.{entry_for}
 use Rattle.ix_subtrees.specs.Sets.{SetLists}
 

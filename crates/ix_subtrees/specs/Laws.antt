@@ -2,8 +2,8 @@
 use Rattle.std.specs.Prelude.{◌≢◌, ◌↔◌, ℕ, ◌^◌, ◌<◌, [], ◌∷◌, codes, AllPairs}
 use Rattle.std.specs.List.{Contains}
 use Rattle.ix_model.specs.declared.sub.Sub.{Sub}
-use Rattle.ix_model.specs.Useful.{sub_at, Useful}
-use Rattle.ix_model.specs.ExamplePlans.{only_a}
+use Rattle.ix_model.specs.Closure.Useful.{sub_at, Useful}
+use Rattle.ix_examples.specs.SmallPlans.{only_a}
 use Rattle.ix_subtrees.specs.Entries.{entry_for, AreInOrder, AreChoicesOf}
 use Rattle.ix_subtrees.specs.Examples.{left_recursive, left_recursive_subs, left_recursive_useful, left_recursive_set}
 use Rattle.ix_subtrees.specs.Sets.{IsLastOf, AreWays, AreAlts, IsSetOf}

@@ -9,3 +9,4 @@ pub mod Sets
 pub mod Subs
 pub mod UsefulSubs
 pub mod Walks
+pub mod WrittenLaws

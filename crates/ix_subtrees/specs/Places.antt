@@ -3,8 +3,8 @@ use Rattle.std.specs.Prelude.{◌≡◌, ℕ, ◌+◌, List, length, Option, Som
 use Rattle.ix_model.specs.declared.grammar.Mark.{Mark}
 use Rattle.ix_model.specs.declared.rules.Sym.{Sym}
 use Rattle.ix_model.specs.declared.rules.Sym.TheVariants as sym
-use Rattle.ix_model.specs.Parts.{Parts}
-use Rattle.ix_model.specs.SlotPlaces.{HasNext, IsLast}
+use Rattle.ix_model.specs.Expansion.Parts.{Parts}
+use Rattle.ix_model.specs.Expansion.SlotPlaces.{HasNext, IsLast}
 use Rattle.ix_subtrees.specs.declared.place.Place.{Place}
 
 module _ (plan : Parts) where

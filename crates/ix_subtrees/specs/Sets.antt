@@ -3,10 +3,10 @@ use Rattle.std.specs.Prelude.{◌↔◌, ℕ, List, length}
 use Rattle.std.specs.List.{Contains}
 use Rattle.ix_model.specs.declared.rules.Sym.{Sym}
 use Rattle.ix_model.specs.declared.sub.Sub.{Sub}
-use Rattle.ix_model.specs.Parts.{Parts}
-use Rattle.ix_model.specs.Slots.{IsSlot}
-use Rattle.ix_model.specs.FlatDerives.{IsLine}
-use Rattle.ix_model.specs.Useful.{sub_at, Useful}
+use Rattle.ix_model.specs.Expansion.Parts.{Parts}
+use Rattle.ix_model.specs.Expansion.Slots.{IsSlot}
+use Rattle.ix_model.specs.Expansion.FlatDerives.{IsLine}
+use Rattle.ix_model.specs.Closure.Useful.{sub_at, Useful}
 use Rattle.ix_subtrees.specs.declared.entry.Entry.{Entry}
 use Rattle.ix_subtrees.specs.Entries.{AreInOrder}
 

@@ -2,9 +2,9 @@
 use Rattle.std.specs.Prelude.{◌↔◌, List}
 use Rattle.std.specs.List.{Contains}
 use Rattle.ix_model.specs.declared.sub.Sub.{Sub}
-use Rattle.ix_model.specs.Parts.{Parts}
-use Rattle.ix_model.specs.Closed.{Part}
-use Rattle.ix_model.specs.Useful.{Useful}
+use Rattle.ix_model.specs.Expansion.Parts.{Parts}
+use Rattle.ix_model.specs.Closure.Closed.{Part}
+use Rattle.ix_model.specs.Closure.Useful.{Useful}
 
 -- the list has the subtrees of the least set
 abbrev pub AreParts : Parts → List Sub → Type 0

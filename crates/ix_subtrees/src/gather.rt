@@ -1,6 +1,6 @@
 ghost use Rattle.std.specs.Prelude.{◌≡◌, ◌<◌, ◌++◌, ℕ, Some, IfSome, IfOk, OnOk, length, get_or};
 ghost use Rattle.std.specs.Option.{option_to_list};
-ghost use Rattle.ix_model.specs.Planned.{IsPlanned};
+ghost use Rattle.ix_model.specs.Expansion.Planned.{IsPlanned};
 ghost use Rattle.ix_subtrees.specs.declared.entry.Entry.{Entry as AnEntry};
 ghost use Rattle.ix_subtrees.specs.Entries.{IsFitEntry};
 ghost use Rattle.ix_subtrees.specs.Gathered.{IsAlt, IsWay, Gathered};

@@ -1,5 +1,5 @@
 ghost use Rattle.std.specs.Prelude.{◌≡◌, [], ◌∷◌, ◌++◌, length, IfOk, OnOk, if◌then◌else◌};
-ghost use Rattle.ix_model.specs.Planned.{IsPlanned};
+ghost use Rattle.ix_model.specs.Expansion.Planned.{IsPlanned};
 ghost use Rattle.ix_subtrees.specs.Subs.{kept, sub_of};
 ghost use Rattle.ix_subtrees.specs.UsefulSubs.{AreParts, AreUseful};
 

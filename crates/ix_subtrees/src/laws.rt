@@ -1,5 +1,16 @@
-//! Worked examples. Each function's contract is the example; the bodies are empty.
+//! Laws of useful subtrees, and worked examples. Each function's contract is the law or the example; the bodies are empty.
 ghost use Rattle.ix_subtrees.specs.Laws.{PartsAreListed, PartIsLeftOut, LeftRecursiveIsListed, LeftRecursiveIsListedOnce, LeftRecursiveIsUseful, ThreeAreUseful, ClosureIsNotUseful, WaysAreListed, UselessWayIsNotListed, LastSlotEnds, InnerSlotDoesNotEnd, AltsAreListed, EmptyAltIsNotLeftOut, ListsAreTheSet, WaysAreNotTheSet, PivotsAreInOrder, TwiceIsNotInOrder, ChoiceIsFound, ChoiceIsNotMissed};
+ghost use Rattle.ix_subtrees.specs.WrittenLaws.{AmbiguousIsTwoWays, DerivedIsUseful};
+
+/// The text has a derivation under the grammar exactly where some subtree is useful.
+pub fn derived_is_useful()
+    ensures { DerivedIsUseful }
+{}
+
+/// The text is ambiguous under the grammar exactly where some span has two ways.
+pub fn ambiguous_is_two_ways()
+    ensures { AmbiguousIsTwoWays }
+{}
 
 /// A list has exactly the subtrees of a closure, or misses one.
 pub fn subtrees_are_listed_or_missed()

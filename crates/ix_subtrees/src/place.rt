@@ -2,8 +2,8 @@ ghost use Rattle.std.specs.Prelude.{◌≡◌, ◌<◌, ◌+◌, ℕ, length, Op
 ghost use Rattle.ix_model.specs.declared.grammar.Mark.{Mark as AMark};
 ghost use Rattle.ix_model.specs.declared.rules.Sym.{Sym as ASym};
 ghost use Rattle.ix_model.specs.declared.rules.Sym.TheVariants.{Rule as ARule};
-ghost use Rattle.ix_model.specs.Planned.{IsPlanned};
-ghost use Rattle.ix_model.specs.SlotPlaces.{HasNext, IsLast};
+ghost use Rattle.ix_model.specs.Expansion.Planned.{IsPlanned};
+ghost use Rattle.ix_model.specs.Expansion.SlotPlaces.{HasNext, IsLast};
 ghost use Rattle.ix_subtrees.specs.Places.{rule_group, IsPlace, ArePlaces};
 
 use ix_model::{Plan, Sym};

@@ -1,12 +1,11 @@
 ghost use Rattle.std.specs.Prelude.{◌≡◌, ◌↔◌, ◌<◌, ℕ, IsTrue, IfOk, length};
 ghost use Rattle.ix_model.specs.declared.grammar.Grammar.{Grammar as AGrammar};
-ghost use Rattle.ix_model.specs.Parts.{Parts};
-ghost use Rattle.ix_model.specs.Planned.{IsPlanned};
-ghost use Rattle.ix_model.specs.Trees.{Tree};
-ghost use Rattle.ix_model.specs.Derives.{IsDerivation};
-ghost use Rattle.ix_model.specs.ExpansionLaws.{IsPlanOf};
-ghost use Rattle.ix_model.specs.Useful.{sub_at};
-ghost use Rattle.ix_model.specs.UsefulLaws.{HasFlatDerivation};
+ghost use Rattle.ix_model.specs.Expansion.Parts.{Parts};
+ghost use Rattle.ix_model.specs.Expansion.Planned.{IsPlanned, IsPlanOf};
+ghost use Rattle.ix_model.specs.Derivations.Trees.{Tree};
+ghost use Rattle.ix_model.specs.Derivations.Derives.{IsDerivation};
+ghost use Rattle.ix_model.specs.Closure.Useful.{sub_at};
+ghost use Rattle.ix_closure_laws.specs.UsefulLaws.{HasFlatDerivation};
 ghost use Rattle.ix_subtrees.specs.Entries.{AreInOrder, AreChoicesOf, entry_at};
 ghost use Rattle.ix_subtrees.specs.Sets.{IsSetOf, AreWays, AreAlts, sub_of_entry};
 ghost use Rattle.ix_subtrees.specs.UsefulSubs.{AreParts, AreUseful};

@@ -1,6 +1,6 @@
 use Rattle.std.proofs.Common.{rules, ◌≡◌, subst, ℕ, None}
 use mathlib.Core.Logic.{inr}
-use Rattle.ix_model.specs.Slots.{sym_after}
+use Rattle.ix_model.specs.Expansion.Slots.{sym_after}
 use Rattle.ix_ambig.specs.TwoChoices.{HasTwoChoices}
 use Rattle.ix_ambig.proofs.Several.{alternatives_left}
 use Rattle.ix_ambig.proofs.ambiguity.has_two_ways.Goals as goal

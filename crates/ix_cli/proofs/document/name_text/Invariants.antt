@@ -1,6 +1,6 @@
 use Rattle.std.proofs.Common.{◌≡◌, ◌++◌, drop, encode_utf8, string_bytes}
 use Rattle.std.specs.List.{flat_map}
-use Rattle.ix_model.specs.Xml.{name_bytes}
+use Rattle.ix_model.specs.Documents.Xml.{name_bytes}
 use Rattle.ix_cli.proofs.document.name_text.Given as goal
 
 abbrev pub invariant-loop-c : goal.invariant-loop-c

@@ -1,5 +1,5 @@
 use Rattle.std.proofs.Common.{◌≡◌, ◌∙◌, take}
-use Rattle.ix_model.specs.Answer.{HoldsConforming}
+use Rattle.ix_model.specs.Answers.Answer.{HoldsConforming}
 use Rattle.ix_engine.specs.Compiled.{IsRefused}
 use Rattle.ix_cli.specs.Loaded.{Holds, IsGrammarFault}
 use Rattle.ix_cli.specs.Refusals.{of_refusal}

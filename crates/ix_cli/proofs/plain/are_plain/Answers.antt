@@ -1,7 +1,7 @@
 use Rattle.std.proofs.Common.{◌≡◌, ◌∙◌, ◌+◌, ap, subst, sym, drop, ◌∷◌}
 use Rattle.std.proofs.lemmas.List.{drop_more}
 use Rattle.ix_model.specs.declared.grammar.Term.{Term}
-use Rattle.ix_model.specs.Plain.{ArePlain}
+use Rattle.ix_cli.specs.Plain.{ArePlain}
 use Rattle.ix_cli.proofs.plain.are_plain.Goals as goal
 
 -- the term that is looked at is plain, so what holds of the rest holds with it

@@ -1,5 +1,5 @@
 use Rattle.std.proofs.Common.{◌↔◌, drop}
-use Rattle.ix_model.specs.Plain.{ArePlain}
+use Rattle.ix_cli.specs.Plain.{ArePlain}
 use Rattle.ix_cli.proofs.plain.are_plain.Given as goal
 
 abbrev pub invariant-loop-term : goal.invariant-loop-term

@@ -1,8 +1,8 @@
 use Rattle.std.proofs.Common.{◌≡◌, ap, sym, ◌∙◌, subst, get_or}
 use Rattle.ix_model.specs.declared.grammar.Rule.{Rule}
 use Rattle.ix_model.specs.declared.state.State.TheVariants.{Single}
-use Rattle.ix_model.specs.Gives.{element, nothing, followed, put_run}
-use Rattle.ix_model.specs.Xml.{xml}
+use Rattle.ix_model.specs.Documents.Gives.{element, nothing, followed, put_run}
+use Rattle.ix_model.specs.Documents.Xml.{xml}
 use Rattle.ix_cli.specs.Numbers.{AreOfCharacters}
 use Rattle.ix_cli.specs.Once.{IsOnlyAlternative}
 use Rattle.ix_cli.proofs.PlainTrees.{only_alternative, only_document_is}

@@ -1,6 +1,6 @@
 use Rattle.std.proofs.Common.{◌≡◌, sym, subst, ℕ, Option, None, IfOk}
 use Rattle.ix_model.specs.declared.grammar.Term.{Term}
-use Rattle.ix_model.specs.Terminals.{Matches}
+use Rattle.ix_model.specs.Matching.Terminals.{Matches}
 use Rattle.ix_cli.proofs.search.term_end.Goals as goal
 
 pub returns-in-Set-clause-none : goal.returns-in-Set-clause-none

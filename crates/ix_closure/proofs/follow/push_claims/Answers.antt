@@ -1,5 +1,5 @@
 use Rattle.std.proofs.Common.{rules, arith}
-use Rattle.ix_closure.proofs.Appends.{claims_more}
+use Rattle.ix_closure.proofs.Lists.Appends.{claims_more}
 use Rattle.ix_closure.proofs.follow.push_claims.Goals as goal
 
 pub loop-alt-preserved : goal.loop-alt-preserved

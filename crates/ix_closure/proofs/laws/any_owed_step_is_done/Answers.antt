@@ -1,4 +1,4 @@
-use Rattle.ix_closure.proofs.SmallEvents.{cycle_is_claimed, second_is_claimed}
+use Rattle.ix_closure.proofs.Small.SmallEvents.{cycle_is_claimed, second_is_claimed}
 use Rattle.ix_closure.proofs.laws.any_owed_step_is_done.Goals as goal
 
 pub returns-clause-first : goal.returns-clause-first

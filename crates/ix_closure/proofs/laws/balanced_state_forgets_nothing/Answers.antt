@@ -1,12 +1,12 @@
 use Rattle.std.proofs.Common.{rules, [], refl, arith}
-use Rattle.ix_model.specs.ExamplePlans.{nothing}
+use Rattle.ix_examples.specs.SmallPlans.{nothing}
 use Rattle.ix_cluster.specs.declared.fact.Fact.TheVariants as fact
 use Rattle.ix_cluster.proofs.Members.{none_has}
 use Rattle.ix_closure.specs.declared.owed.Owed.TheVariants.{Claim, Edge, End}
 use Rattle.ix_closure.specs.Due.{FollowsIn, claim, ends}
 use Rattle.ix_closure.specs.Examples.{nothing_begun, nothing_called, nothing_ended}
-use Rattle.ix_closure.proofs.SmallStates.{balanced_more, nothing_begun_tidy, nothing_ended_tidy}
-use Rattle.ix_closure.proofs.SmallSteps.{nothing_last}
+use Rattle.ix_closure.proofs.Small.SmallStates.{balanced_more, nothing_begun_tidy, nothing_ended_tidy}
+use Rattle.ix_closure.proofs.Small.SmallSteps.{nothing_last}
 use Rattle.ix_closure.proofs.laws.balanced_state_forgets_nothing.Goals as goal
 
 no_edge : FollowsIn (nothing []) nothing_begun.banks (Edge 0 0 0 0) → ⊥

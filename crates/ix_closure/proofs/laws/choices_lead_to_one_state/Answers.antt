@@ -1,4 +1,4 @@
-use Rattle.ix_closure.proofs.OneOutcome.{run_once}
+use Rattle.ix_closure.proofs.Due.OneOutcome.{run_once}
 use Rattle.ix_closure.proofs.laws.choices_lead_to_one_state.Goals as goal
 
 pub returns : goal.returns

@@ -1,11 +1,11 @@
 use Rattle.std.proofs.Common.{[], ◌∷◌, ap}
-use Rattle.ix_model.specs.ExamplePlans.{nothing}
+use Rattle.ix_examples.specs.SmallPlans.{nothing}
 use Rattle.ix_closure.specs.Examples.{nothing_begun, nothing_claimed, nothing_ended}
 use Rattle.ix_closure.specs.Runs.{rests}
 use Rattle.ix_closure.specs.Seen.{State}
-use Rattle.ix_closure.proofs.OneOutcome.{run_once}
-use Rattle.ix_closure.proofs.SmallEvents.{nothing_goes_on, nothing_runs}
-use Rattle.ix_closure.proofs.SmallSteps.{nothing_planned}
+use Rattle.ix_closure.proofs.Due.OneOutcome.{run_once}
+use Rattle.ix_closure.proofs.Small.SmallEvents.{nothing_goes_on, nothing_runs}
+use Rattle.ix_closure.proofs.Small.SmallSteps.{nothing_planned}
 use Rattle.ix_closure.proofs.laws.choices_lead_to_states.Goals as goal
 
 pub returns-clause-both : goal.returns-clause-both

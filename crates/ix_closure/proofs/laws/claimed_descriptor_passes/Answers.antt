@@ -1,9 +1,9 @@
 use Rattle.std.proofs.Common.{[]}
-use Rattle.ix_model.specs.ExamplePlans.{literal}
+use Rattle.ix_examples.specs.SmallPlans.{literal}
 use Rattle.ix_cluster.specs.declared.fact.Fact.TheVariants as fact
 use Rattle.ix_cluster.proofs.Members.{first_has}
 use Rattle.ix_closure.specs.Due.{claim, passed, inserted}
-use Rattle.ix_closure.proofs.SmallSteps.{a_stands, next_0_a, next_0_x}
+use Rattle.ix_closure.proofs.Small.SmallSteps.{a_stands, next_0_a, next_0_x}
 use Rattle.ix_closure.proofs.laws.claimed_descriptor_passes.Goals as goal
 
 pub returns-clause-claim : goal.returns-clause-claim

@@ -1,15 +1,15 @@
 use Rattle.std.proofs.Common.{rules, zero, suc, [], ◌∷◌, ◌++◌, Contains, refl, arith}
 use Rattle.std.specs.List.{IsDistinct}
-use Rattle.ix_model.specs.ExamplePlans.{nothing}
-use Rattle.ix_model.proofs.ClosedWithin.{called_within}
-use Rattle.ix_model.proofs.SmallClosures.{part_1}
+use Rattle.ix_examples.specs.SmallPlans.{nothing}
+use Rattle.ix_closure_laws.proofs.ClosedWithin.{called_within}
+use Rattle.ix_examples.proofs.SmallClosures.{part_1}
 use Rattle.ix_cluster.specs.declared.fact.Fact.{Fact}
 use Rattle.ix_cluster.specs.declared.fact.Fact.TheVariants.{Called, Claim, End, Part}
 use Rattle.ix_cluster.proofs.Members.{none_has}
 use Rattle.ix_closure.specs.Examples.{a_called, nothing_called, nothing_closed}
 use Rattle.ix_closure.specs.Follows.{sub_of}
-use Rattle.ix_closure.proofs.SmallStates.{b_closure, nothing_closure}
-use Rattle.ix_closure.proofs.SmallSteps.{nothing_planned}
+use Rattle.ix_closure.proofs.Small.SmallStates.{b_closure, nothing_closure}
+use Rattle.ix_closure.proofs.Small.SmallSteps.{nothing_planned}
 use Rattle.ix_closure.proofs.laws.closure_has_each_fact_once.Goals as goal
 
 turned_back : (f : Fact) → Contains (End 0 0 0 ∷ Claim 0 0 0 ∷ nothing_called) f → Contains nothing_closed f

@@ -1,4 +1,4 @@
-use Rattle.ix_closure.proofs.SmallSteps.{insertion_passes, cycle_calls, nothing_ends}
+use Rattle.ix_closure.proofs.Small.SmallSteps.{insertion_passes, cycle_calls, nothing_ends}
 use Rattle.ix_closure.proofs.laws.descriptor_brings_by_its_symbol.Goals as goal
 
 pub returns-clause-inserts : goal.returns-clause-inserts

@@ -1,10 +1,10 @@
 use Rattle.std.proofs.Common.{[], ◌∷◌, codes}
-use Rattle.ix_model.specs.ExamplePlans.{only_a}
-use Rattle.ix_model.proofs.SmallPlans.{planned_a}
+use Rattle.ix_examples.specs.SmallPlans.{only_a}
+use Rattle.ix_examples.proofs.SmallPlans.{planned_a}
 use Rattle.ix_closure.specs.declared.owed.Owed.TheVariants.{Arrive}
 use Rattle.ix_closure.specs.Follows.{sub_of}
-use Rattle.ix_closure.proofs.DescriptorSteps.{follows_same}
-use Rattle.ix_closure.proofs.SmallSteps.{a_passes, b_stops}
+use Rattle.ix_closure.proofs.Due.DescriptorSteps.{follows_same}
+use Rattle.ix_closure.proofs.Small.SmallSteps.{a_passes, b_stops}
 use Rattle.ix_closure.proofs.laws.descriptor_passes_a_terminal.Goals as goal
 
 pub returns-clause-passes : goal.returns-clause-passes

@@ -2,7 +2,7 @@ use Rattle.std.proofs.Common.{[], ◌∷◌, None, refl, arith}
 use Rattle.ix_cluster.specs.declared.fact.Fact.TheVariants as fact
 use Rattle.ix_cluster.proofs.Members.{first_has}
 use Rattle.ix_closure.specs.Due.{waits, ends, meets}
-use Rattle.ix_closure.proofs.SmallSteps.{next_0_c, nothing_last}
+use Rattle.ix_closure.proofs.Small.SmallSteps.{next_0_c, nothing_last}
 use Rattle.ix_closure.proofs.laws.edges_and_ends_follow.Goals as goal
 
 pub returns-clause-waits : goal.returns-clause-waits

@@ -1,6 +1,6 @@
 use Rattle.std.proofs.Common.{rules, refl, arith}
 use Rattle.ix_closure.specs.Due.{claim, ends}
-use Rattle.ix_closure.proofs.SmallSteps.{nothing_last}
+use Rattle.ix_closure.proofs.Small.SmallSteps.{nothing_last}
 use Rattle.ix_closure.proofs.laws.end_is_missing_until_it_is_recorded.Goals as goal
 
 pub returns-clause-claim : goal.returns-clause-claim

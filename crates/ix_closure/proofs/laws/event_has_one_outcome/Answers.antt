@@ -1,5 +1,5 @@
-use Rattle.ix_closure.proofs.OneOutcome.{event_once}
-use Rattle.ix_closure.proofs.SomeOutcome.{event_there}
+use Rattle.ix_closure.proofs.Due.OneOutcome.{event_once}
+use Rattle.ix_closure.proofs.Due.SomeOutcome.{event_there}
 use Rattle.ix_closure.proofs.laws.event_has_one_outcome.Goals as goal
 
 pub returns-clause-one : goal.returns-clause-one

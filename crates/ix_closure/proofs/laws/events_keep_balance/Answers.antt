@@ -1,4 +1,4 @@
-use Rattle.ix_closure.proofs.EventBalance.{event_balanced}
+use Rattle.ix_closure.proofs.Balancing.EventBalance.{event_balanced}
 use Rattle.ix_closure.proofs.laws.events_keep_balance.Goals as goal
 
 pub returns : goal.returns

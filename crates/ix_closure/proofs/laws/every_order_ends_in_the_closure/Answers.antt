@@ -3,7 +3,7 @@ use Rattle.ix_cluster.specs.declared.fact.Fact.TheVariants as fact
 use Rattle.ix_closure.specs.declared.owed.Owed.TheVariants.{Claim}
 use Rattle.ix_closure.specs.Examples.{alone, nothing_called}
 use Rattle.ix_closure.specs.Runs.{rests}
-use Rattle.ix_closure.proofs.SmallStates.{cycle_every_order, nothing_closure, nothing_every_order}
+use Rattle.ix_closure.proofs.Small.SmallStates.{cycle_every_order, nothing_closure, nothing_every_order}
 use Rattle.ix_closure.proofs.laws.every_order_ends_in_the_closure.Goals as goal
 
 unclaimed : Contains nothing_called (fact.Claim 0 0 0) → ⊥

@@ -2,7 +2,7 @@ use Rattle.std.proofs.Common.{rules, refl, arith}
 use Rattle.ix_cluster.proofs.Members.{none_has}
 use Rattle.ix_closure.specs.declared.owed.Owed.TheVariants.{Claim}
 use Rattle.ix_closure.specs.Due.{claim}
-use Rattle.ix_closure.proofs.SmallStates.{nothing_begun_tidy, nothing_claimed_tidy, nothing_ended_tidy}
+use Rattle.ix_closure.proofs.Small.SmallStates.{nothing_begun_tidy, nothing_claimed_tidy, nothing_ended_tidy}
 use Rattle.ix_closure.proofs.laws.reached_states_are_tidy.Goals as goal
 
 pub returns-clause-begun : goal.returns-clause-begun

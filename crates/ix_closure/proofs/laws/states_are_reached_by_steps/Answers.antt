@@ -1,10 +1,10 @@
 use Rattle.std.proofs.Common.{[], ◌∷◌, ap, refl}
-use Rattle.ix_model.specs.ExamplePlans.{nothing}
+use Rattle.ix_examples.specs.SmallPlans.{nothing}
 use Rattle.ix_closure.specs.Examples.{nothing_begun, nothing_ended}
 use Rattle.ix_closure.specs.Runs.{rests}
 use Rattle.ix_closure.specs.Seen.{State}
-use Rattle.ix_closure.proofs.QuietRuns.{quiet_stays}
-use Rattle.ix_closure.proofs.SmallEvents.{nothing_runs}
+use Rattle.ix_closure.proofs.Closing.QuietRuns.{quiet_stays}
+use Rattle.ix_closure.proofs.Small.SmallEvents.{nothing_runs}
 use Rattle.ix_closure.proofs.laws.states_are_reached_by_steps.Goals as goal
 
 pub returns-clause-end : goal.returns-clause-end

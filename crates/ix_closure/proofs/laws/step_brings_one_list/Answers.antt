@@ -1,5 +1,5 @@
-use Rattle.ix_closure.proofs.OneOutcome.{follows_once}
-use Rattle.ix_closure.proofs.SomeOutcome.{follows_there}
+use Rattle.ix_closure.proofs.Due.OneOutcome.{follows_once}
+use Rattle.ix_closure.proofs.Due.SomeOutcome.{follows_there}
 use Rattle.ix_closure.proofs.laws.step_brings_one_list.Goals as goal
 
 pub returns-clause-one : goal.returns-clause-one

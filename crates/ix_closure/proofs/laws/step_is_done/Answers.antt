@@ -1,4 +1,4 @@
-use Rattle.ix_closure.proofs.SmallEvents.{nothing_is_claimed, nothing_is_ended}
+use Rattle.ix_closure.proofs.Small.SmallEvents.{nothing_is_claimed, nothing_is_ended}
 use Rattle.ix_closure.proofs.laws.step_is_done.Goals as goal
 
 pub returns-clause-done : goal.returns-clause-done

@@ -1,6 +1,6 @@
 use Rattle.std.proofs.Common.{[], ◌∷◌}
 use Rattle.std.proofs.lemmas.List.Elements.{All-contains}
-use Rattle.ix_model.specs.ExamplePlans.{cycle}
+use Rattle.ix_examples.specs.SmallPlans.{cycle}
 use Rattle.ix_cluster.specs.declared.cluster.Edge.{Edge as Arc}
 use Rattle.ix_cluster.proofs.Members.{first_has}
 use Rattle.ix_closure.specs.Ready.{HasFurther}

@@ -1,6 +1,6 @@
 use Rattle.std.proofs.Common.{rules, ◌⊎◌, ℕ, [], ◌∷◌, ◌++◌, codes, refl, arith}
-use Rattle.ix_model.specs.ExamplePlans.{only_a}
-use Rattle.ix_model.specs.SlotPlaces.{IsFirst}
+use Rattle.ix_examples.specs.SmallPlans.{only_a}
+use Rattle.ix_model.specs.Expansion.SlotPlaces.{IsFirst}
 use Rattle.ix_cluster.specs.declared.fact.Fact.TheVariants as fact
 use Rattle.ix_closure.specs.declared.owed.Owed.TheVariants.{Claim, Arrive}
 use Rattle.ix_closure.specs.Due.{FollowsIn, IsRecorded}
@@ -8,7 +8,7 @@ use Rattle.ix_closure.specs.Examples.{a_called, alone, cycle_called}
 use Rattle.ix_closure.specs.Follows.{sub_of}
 use Rattle.ix_closure.specs.Seen.{State}
 use Rattle.ix_closure.specs.Tidy.{IsEmptyOfCalled}
-use Rattle.ix_closure.proofs.SmallUntidy.{descriptor_balanced, edge_balanced, first_of_half, half_balanced, subtree_balanced}
+use Rattle.ix_closure.proofs.Small.SmallUntidy.{descriptor_balanced, edge_balanced, first_of_half, half_balanced, subtree_balanced}
 use Rattle.ix_closure.proofs.laws.tidy_state_has_causes.Goals as goal
 
 edge_unclaimed : IsRecorded (alone (cycle_called ++ fact.Edge 0 0 0 0 ∷ []) 0 []).banks (fact.Claim 0 0 0) → ⊥

@@ -1,13 +1,13 @@
 use Rattle.std.proofs.Common.{◌≤◌, [], ◌∷◌, ◌++◌, codes, refl, arith}
-use Rattle.ix_model.specs.ExamplePlans.{cycle, literal, nothing, only_a}
+use Rattle.ix_examples.specs.SmallPlans.{cycle, literal, nothing, only_a}
 use Rattle.ix_cluster.specs.declared.fact.Fact.TheVariants as fact
 use Rattle.ix_closure.specs.declared.owed.Owed.TheVariants.{Claim, Edge, End, Arrive}
 use Rattle.ix_closure.specs.Due.{claim, passed, waits, ends}
 use Rattle.ix_closure.specs.Examples.{a_called, alone, cycle_claimed, nothing_begun, nothing_claimed}
 use Rattle.ix_closure.specs.Follows.{sub_of}
-use Rattle.ix_closure.proofs.SmallAlternatives.{alternatives_tidy}
-use Rattle.ix_closure.proofs.SmallStates.{a_claimed_tidy, balanced_more, cycle_claimed_tidy, nothing_begun_tidy, nothing_claimed_tidy}
-use Rattle.ix_closure.proofs.SmallSteps.{a_stands, next_0_a, next_0_c, nothing_last}
+use Rattle.ix_closure.proofs.Small.SmallAlternatives.{alternatives_tidy}
+use Rattle.ix_closure.proofs.Small.SmallStates.{a_claimed_tidy, balanced_more, cycle_claimed_tidy, nothing_begun_tidy, nothing_claimed_tidy}
+use Rattle.ix_closure.proofs.Small.SmallSteps.{a_stands, next_0_a, next_0_c, nothing_last}
 use Rattle.ix_closure.proofs.laws.tidy_state_owes_once.Goals as goal
 
 pub returns-clause-claim_twice : goal.returns-clause-claim_twice

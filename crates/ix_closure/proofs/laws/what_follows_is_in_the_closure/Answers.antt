@@ -1,5 +1,5 @@
 use Rattle.std.proofs.Common.{Contains}
-use Rattle.ix_closure.proofs.DueClosed.{due_closed}
+use Rattle.ix_closure.proofs.Due.DueClosed.{due_closed}
 use Rattle.ix_closure.proofs.laws.what_follows_is_in_the_closure.Goals as goal
 
 pub returns : goal.returns

@@ -3,8 +3,8 @@ use Rattle.ix_cluster.specs.Firsts.{firsts_of}
 use Rattle.ix_cluster.specs.Lists.{cluster}
 use Rattle.ix_cluster.specs.Steps.{end_of, edge_is_first, edge_answer}
 use Rattle.ix_closure.specs.Follows.{claims_at, arrival}
-use Rattle.ix_closure.proofs.Appends.{two_appends}
-use Rattle.ix_closure.proofs.ListCounts.{length_filter_map}
+use Rattle.ix_closure.proofs.Lists.Appends.{two_appends}
+use Rattle.ix_closure.proofs.Lists.ListCounts.{length_filter_map}
 use Rattle.ix_closure.proofs.steps.do_edge.Goals as goal
 
 pub overflow_add-alternatives : goal.overflow_add-alternatives

@@ -1,5 +1,5 @@
 use Rattle.std.proofs.Common.{◌≡◌, ℕ, zero, suc, [], ◌∷◌, Some, slice_get, subst, refl, arith}
-use Rattle.ix_model.specs.ExamplePlans.{cycle}
+use Rattle.ix_examples.specs.SmallPlans.{cycle}
 use Rattle.ix_cluster.specs.declared.fact.Fact.TheVariants.{Called, Desc}
 use Rattle.ix_cluster.specs.Banks.{opening, opening_bank}
 use Rattle.ix_cluster.specs.Seen.{Bank}

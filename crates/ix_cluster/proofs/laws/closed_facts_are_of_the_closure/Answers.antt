@@ -1,7 +1,7 @@
 use Rattle.std.proofs.Common.{arith, []}
-use Rattle.ix_model.specs.ExamplePlans.{cycle}
-use Rattle.ix_model.specs.Closed as closed
-use Rattle.ix_model.proofs.ClosedWithin.{called_within}
+use Rattle.ix_examples.specs.SmallPlans.{cycle}
+use Rattle.ix_model.specs.Closure.Closed as closed
+use Rattle.ix_closure_laws.proofs.ClosedWithin.{called_within}
 use Rattle.ix_cluster.proofs.SmallBanks.{cycle_planned, first_begins}
 use Rattle.ix_cluster.proofs.laws.closed_facts_are_of_the_closure.Goals as goal
 

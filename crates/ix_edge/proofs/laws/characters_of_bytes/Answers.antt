@@ -1,5 +1,5 @@
 use Rattle.std.proofs.Common.{ap, refl, [], ◌∷◌}
-use Rattle.ix_model.specs.Decoding.{without_mark}
+use Rattle.ix_model.specs.Answers.Decoding.{without_mark}
 use Rattle.std.proofs.lemmas.Str.{chars-encodes}
 use lib.Utf8.{encode}
 use Rattle.ix_edge.proofs.laws.characters_of_bytes.Goals as goal

@@ -1,5 +1,5 @@
 use Rattle.std.proofs.Common.{◌≡◌, ◌+◌, ◌≤◌, take}
-use Rattle.ix_model.specs.Places.{line_after, column_after}
+use Rattle.ix_model.specs.Answers.Places.{line_after, column_after}
 use Rattle.ix_edge.proofs.line.place.Given as goal
 
 abbrev pub invariant-loop-c : goal.invariant-loop-c

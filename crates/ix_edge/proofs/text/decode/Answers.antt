@@ -1,5 +1,5 @@
 use Rattle.std.proofs.Common.{ap, ◌∙◌, length, arith}
-use Rattle.ix_model.specs.Decoding.{decoded}
+use Rattle.ix_model.specs.Answers.Decoding.{decoded}
 use Rattle.ix_edge.proofs.Decoded.{length-decoded}
 use Rattle.ix_edge.proofs.text.decode.Goals as goal
 

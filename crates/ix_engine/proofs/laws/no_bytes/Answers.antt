@@ -1,7 +1,7 @@
 use Rattle.std.proofs.Common.{refl, [], arith}
 use Rattle.std.specs.Str.{chars}
 use lib.Utf8.{encode}
-use Rattle.ix_model.proofs.ByReading.{reads_none}
+use Rattle.ix_spelling_laws.proofs.ByReading.{reads_none}
 use Rattle.ix_engine.proofs.laws.no_bytes.Goals as goal
 
 pub returns-clause-no_grammar : goal.returns-clause-no_grammar

@@ -1,4 +1,4 @@
-use Rattle.ix_model.specs.Breach.{IsKnownClass}
+use Rattle.ix_model.specs.Grammars.Breach.{IsKnownClass}
 use Rattle.ix_errors.specs.Mentions.{class_in}
 use Rattle.ix_errors.proofs.Searching.{found_at}
 use Rattle.ix_errors.proofs.classes.first_unknown.Goals as goal

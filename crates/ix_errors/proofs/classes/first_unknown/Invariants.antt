@@ -1,6 +1,6 @@
 use Rattle.std.proofs.Common.{take}
 use Rattle.std.specs.List.{AllByRecursion, flat_map}
-use Rattle.ix_model.specs.Breach.{IsKnownClass}
+use Rattle.ix_model.specs.Grammars.Breach.{IsKnownClass}
 use Rattle.ix_errors.specs.Mentions.{class_in}
 use Rattle.ix_errors.proofs.classes.first_unknown.Given as goal
 

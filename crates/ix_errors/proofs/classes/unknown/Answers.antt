@@ -1,5 +1,5 @@
 use Rattle.std.proofs.Common.{◌≡◌, true, false, ap, sym, ◌∙◌, subst}
-use Rattle.ix_model.specs.Breach.{IsKnownClass}
+use Rattle.ix_model.specs.Grammars.Breach.{IsKnownClass}
 use Rattle.ix_errors.specs.Mentions.{class_in}
 use Rattle.ix_errors.proofs.Searching.{alone}
 use Rattle.ix_errors.proofs.classes.unknown.Goals as goal

@@ -1,7 +1,7 @@
 use Rattle.std.proofs.Common.{sym, subst}
 use Rattle.std.specs.List.{AllByRecursion}
-use Rattle.ix_model.specs.Breach.{IsCodePoint}
-use Rattle.ix_model.specs.Spells.{IsHex}
+use Rattle.ix_model.specs.Grammars.Breach.{IsCodePoint}
+use Rattle.ix_model.specs.Spelling.Spells.{IsHex}
 use Rattle.ix_errors.specs.declared.mention.Mention.{Mention}
 use Rattle.ix_errors.specs.Mentions.{code_in}
 use Rattle.ix_errors.proofs.Searching.{all_at, found_at}

@@ -1,6 +1,6 @@
 use Rattle.std.proofs.Common.{take}
 use Rattle.std.specs.List.{AllByRecursion, flat_map}
-use Rattle.ix_model.specs.Breach.{IsCodePoint}
+use Rattle.ix_model.specs.Grammars.Breach.{IsCodePoint}
 use Rattle.ix_errors.specs.Mentions.{code_in}
 use Rattle.ix_errors.proofs.codes.first_wrong_code.Given as goal
 

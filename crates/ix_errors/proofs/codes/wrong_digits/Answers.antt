@@ -1,5 +1,5 @@
 use Rattle.std.proofs.Common.{◌≡◌, true, false, [], ◌∷◌, refl, sym, subst}
-use Rattle.ix_model.specs.Breach.{IsCodePoint}
+use Rattle.ix_model.specs.Grammars.Breach.{IsCodePoint}
 use Rattle.ix_errors.proofs.Searching.{alone}
 use Rattle.ix_errors.proofs.codes.wrong_digits.Goals as goal
 

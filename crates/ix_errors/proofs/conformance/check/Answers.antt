@@ -1,6 +1,6 @@
 use Rattle.std.proofs.Common.{◌≡◌, ℕ, List, sym, ◌∙◌, ap, subst, rules}
 use Rattle.ix_errors.specs.Mentions.{AreOf}
-use Rattle.ix_model.specs.Names.{names_of}
+use Rattle.ix_model.specs.Grammars.Names.{names_of}
 use Rattle.ix_errors.proofs.Judged.{least_range, least_class, least_call, last_ok, last_err}
 use Rattle.ix_errors.proofs.conformance.check.Goals as goal
 

@@ -1,13 +1,13 @@
 use Rattle.std.proofs.Common.{◌≡◌, refl, sym, ap, ◌∙◌, ℕ, [], ◌∷◌, codes, arith}
 use Rattle.ucd_category.specs.declared.GeneralCategory.TheVariants as category
-use Rattle.ix_model.specs.Factors.{classes_of}
-use Rattle.ix_model.specs.Breach as of
-use Rattle.ix_model.specs.Breach.{Fault, IsRising, IsKnownClass}
-use Rattle.ix_model.specs.ExampleGrammars.{only_a}
-use Rattle.ix_model.specs.ExampleSpellings.{of_class}
+use Rattle.ix_model.specs.Grammars.Factors.{classes_of}
+use Rattle.ix_model.specs.Grammars.Breach as of
+use Rattle.ix_model.specs.Grammars.Breach.{Fault, IsRising, IsKnownClass}
+use Rattle.ix_examples.specs.SmallGrammars.{only_a}
+use Rattle.ix_examples.specs.SmallSpellings.{of_class}
 use Rattle.ix_model.proofs.Folds.{the_folds}
-use Rattle.ix_model.proofs.Judging.{no_first, first_once, unknown, above_ranges}
-use Rattle.ix_model.proofs.SmallGrammars.{no_version}
+use Rattle.ix_conformance_laws.proofs.Judging.{no_first, first_once, unknown, above_ranges}
+use Rattle.ix_conformance_laws.proofs.ByTests.{no_version}
 use Rattle.ix_errors.specs.Breaches.{falling}
 use Rattle.ix_errors.proofs.laws.errors_of_small_grammars.Goals as goal
 

@@ -1,6 +1,6 @@
 use Rattle.std.proofs.Common.{◌≡◌, refl, ap, ℕ, List, [], ◌∷◌, arith}
-use Rattle.ix_model.specs.Breach.{IsFirstNot, IsRising}
-use Rattle.ix_model.proofs.Judging.{first_once}
+use Rattle.ix_model.specs.Grammars.Breach.{IsFirstNot, IsRising}
+use Rattle.ix_conformance_laws.proofs.Judging.{first_once}
 use Rattle.ix_errors.proofs.laws.first_of_two_falling.Goals as goal
 
 abbrev ranges : List (ℕ × ℕ)

@@ -1,8 +1,8 @@
 use Rattle.std.proofs.Common.{◌≡◌, refl, ap, ◌⊎◌, inl, inr, Option, Some, None, arith}
 use Rattle.std.specs.Prelude.{IfSome}
 use Rattle.ix_model.specs.declared.grammar.Grammar.{Grammar}
-use Rattle.ix_model.specs.Breach.{Fault, LeastBreach}
-use Rattle.ix_model.proofs.Judging.{item_once}
+use Rattle.ix_model.specs.Grammars.Breach.{Fault, LeastBreach}
+use Rattle.ix_conformance_laws.proofs.Judging.{item_once}
 use Rattle.ix_errors.specs.Breaches.{fault_of}
 use Rattle.ix_errors.proofs.laws.least_is_named.Goals as goal
 

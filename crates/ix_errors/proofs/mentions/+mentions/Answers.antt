@@ -1,9 +1,9 @@
 use Rattle.std.proofs.Common.{◌≡◌, List, OnOk, ap, sym, subst, ◌∙◌}
 use Rattle.std.specs.List.{flat_map}
 use Rattle.ix_model.specs.declared.grammar.Factor.{Factor}
-use Rattle.ix_model.specs.Factors.{factors_of_factor, factors_of_term, factors_of_alt}
+use Rattle.ix_model.specs.Grammars.Factors.{factors_of_factor, factors_of_term, factors_of_alt}
 use Rattle.ix_errors.specs.Mentions.{AddsFactors}
-use Rattle.ix_model.proofs.FactorLists.{of_group, of_alt}
+use Rattle.ix_conformance_laws.proofs.FactorLists.{of_group, of_alt}
 use Rattle.ix_errors.proofs.Adding.{one_more}
 use Rattle.ix_errors.proofs.mentions.+mentions.Goals as goal
 

@@ -1,6 +1,6 @@
 use Rattle.std.proofs.Common.{take}
 use Rattle.std.specs.List.{flat_map}
-use Rattle.ix_model.specs.Factors.{factors_of_term, factors_of_alt}
+use Rattle.ix_model.specs.Grammars.Factors.{factors_of_term, factors_of_alt}
 use Rattle.ix_errors.specs.Mentions.{AddsFactors}
 use Rattle.ix_errors.proofs.mentions.+mentions.Given as goal
 

@@ -1,5 +1,5 @@
 use Rattle.std.proofs.Common.{◌∷◌, [], ap, ap₂, sym, ◌∙◌, arith}
-use Rattle.ix_model.specs.Breach.{IsRising}
+use Rattle.ix_model.specs.Grammars.Breach.{IsRising}
 use Rattle.ix_errors.specs.Mentions.{range_in}
 use Rattle.ix_errors.proofs.Searching.{alone}
 use Rattle.ix_errors.proofs.ranges.falling.Goals as goal

@@ -1,6 +1,6 @@
 use Rattle.std.proofs.Common.{take}
 use Rattle.std.specs.List.{AllByRecursion, flat_map}
-use Rattle.ix_model.specs.Spells.{IsHex}
+use Rattle.ix_model.specs.Spelling.Spells.{IsHex}
 use Rattle.ix_errors.specs.Mentions.{code_in}
 use Rattle.ix_errors.proofs.tests.are_hex.Given as goal
 

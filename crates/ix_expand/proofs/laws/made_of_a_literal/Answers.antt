@@ -3,10 +3,10 @@ use Rattle.ix_model.specs.declared.grammar.Chars.TheVariants.{Quoted}
 use Rattle.ix_model.specs.declared.rules.Rules.{Rules}
 use Rattle.ix_model.specs.declared.rules.Sym.TheVariants as sym
 use Rattle.ix_model.specs.declared.rules.Terminal.TheVariants as terminal
-use Rattle.ix_model.specs.ExampleGrammars.{only_a, literal}
-use Rattle.ix_model.specs.ExampleRules.{rules_of}
-use Rattle.ix_model.specs.Expanded.{FactorBecomes}
-use Rattle.ix_model.proofs.Lowering.{of_literal}
+use Rattle.ix_examples.specs.SmallGrammars.{only_a, literal}
+use Rattle.ix_examples.specs.SmallRules.{rules_of}
+use Rattle.ix_model.specs.Expansion.Expanded.{FactorBecomes}
+use Rattle.ix_expansion_laws.proofs.Lowering.{of_literal}
 use Rattle.std.specs.Prelude.{true}
 use Rattle.ix_expand.specs.Examples.{unmade}
 use Rattle.ix_expand.specs.Growth.{next, with_terminal}

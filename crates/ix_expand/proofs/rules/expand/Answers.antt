@@ -5,11 +5,11 @@ use Rattle.ix_model.specs.declared.grammar.Grammar.{Grammar}
 use Rattle.ix_model.specs.declared.grammar.Factor.{Factor}
 use Rattle.ix_model.specs.declared.grammar.Rule.{Rule}
 use Rattle.ix_model.specs.declared.rules.Flat.{Flat}
-use Rattle.ix_model.specs.Bare.{effective}
-use Rattle.ix_model.specs.Expanded.{RulesBecome, Expanded}
-use Rattle.ix_model.specs.Factors.{factors_of_alt}
-use Rattle.ix_model.specs.Numbering.{numbering}
-use Rattle.ix_model.specs.Size.{rule_size}
+use Rattle.ix_model.specs.Documents.Bare.{effective}
+use Rattle.ix_model.specs.Expansion.Expanded.{RulesBecome, Expanded}
+use Rattle.ix_model.specs.Grammars.Factors.{factors_of_alt}
+use Rattle.ix_model.specs.Expansion.Numbering.{numbering}
+use Rattle.ix_model.specs.Grammars.Size.{rule_size}
 use Rattle.ix_expand.specs.declared.made.Made.{Made}
 use Rattle.ix_expand.specs.Growth.{BeginsWith, Makes, count_of}
 use Rattle.ix_expand.specs.SlotCounts.{slots_of}

@@ -1,6 +1,6 @@
 use Rattle.std.proofs.Common.{◌≡◌, map, take, None}
 use Rattle.ix_model.specs.declared.grammar.Rule.{Rule}
-use Rattle.ix_model.specs.Bare.{effective}
+use Rattle.ix_model.specs.Documents.Bare.{effective}
 use Rattle.ix_expand.proofs.rules.marks_of_rules.Given as goal
 
 abbrev pub invariant-loop-rule : goal.invariant-loop-rule

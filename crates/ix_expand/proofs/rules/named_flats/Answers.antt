@@ -1,10 +1,10 @@
 use Rattle.std.proofs.Common.{ap, List, length, arith}
 use Rattle.std.proofs.lemmas.List.{length_push}
 use Rattle.ix_model.specs.declared.rules.Flat.{Flat}
-use Rattle.ix_model.specs.Factors.{factors_of_alt}
-use Rattle.ix_model.specs.Size.{rule_size}
+use Rattle.ix_model.specs.Grammars.Factors.{factors_of_alt}
+use Rattle.ix_model.specs.Grammars.Size.{rule_size}
 use Rattle.ix_model.specs.declared.grammar.Rule.{Rule}
-use Rattle.ix_model.specs.Expanded.{no_rule}
+use Rattle.ix_model.specs.Expansion.Expanded.{no_rule}
 use Rattle.std.specs.List.{flat_map}
 use Rattle.ix_expand.specs.SlotCounts.{flats_slots}
 use Rattle.ix_expand.specs.Sound.{IsSound}

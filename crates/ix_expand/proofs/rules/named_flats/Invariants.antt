@@ -1,9 +1,9 @@
 use Rattle.std.proofs.Common.{◌≡◌, ◌+◌, ◌*◌, ◌≤◌, map, sum, length, take, drop}
 use Rattle.std.specs.List.{AllByRecursion, flat_map}
 use Rattle.ix_model.specs.declared.grammar.Rule.{Rule}
-use Rattle.ix_model.specs.Expanded.{RulesBecome}
-use Rattle.ix_model.specs.Factors.{factors_of_alt}
-use Rattle.ix_model.specs.Size.{rule_size}
+use Rattle.ix_model.specs.Expansion.Expanded.{RulesBecome}
+use Rattle.ix_model.specs.Grammars.Factors.{factors_of_alt}
+use Rattle.ix_model.specs.Grammars.Size.{rule_size}
 use Rattle.ix_expand.specs.Growth.{BeginsWith, Makes, count_of}
 use Rattle.ix_expand.specs.SlotCounts.{slots_of, flats_slots}
 use Rattle.ix_expand.specs.Sound.{IsSound}

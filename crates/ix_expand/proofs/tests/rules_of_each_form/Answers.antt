@@ -1,6 +1,6 @@
 use Rattle.std.proofs.Common.{sym, subst, ap, arith}
-use Rattle.ix_model.specs.Breach.{Conforming}
-use Rattle.ix_model.specs.Size.{size}
+use Rattle.ix_model.specs.Grammars.Breach.{Conforming}
+use Rattle.ix_model.specs.Grammars.Size.{size}
 use Rattle.ix_expand.proofs.Conforms.{forms_conform, forms_size}
 use Rattle.ix_expand.proofs.tests.rules_of_each_form.Goals as goal
 

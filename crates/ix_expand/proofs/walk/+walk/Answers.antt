@@ -8,11 +8,11 @@ use Rattle.ix_model.specs.declared.grammar.Factor.{Factor, Call, Group}
 use Rattle.ix_model.specs.declared.rules.Kind.TheVariants as kind
 use Rattle.ix_model.specs.declared.rules.Line.{Line}
 use Rattle.ix_model.specs.declared.rules.Sym.{Sym}
-use Rattle.ix_model.specs.Factors.{factor_step, term_step, alt_step, factors_of_term, factors_of_alt, joined}
-use Rattle.ix_model.specs.Written.{IsNamed}
-use Rattle.ix_model.specs.Size.{term_size, alt_size}
-use Rattle.ix_model.specs.Expanded as X
-use Rattle.ix_model.specs.Expanded.{Next, line, next_syms, TermBecomes, RepeatBecomes, SeparatorBecomes, FactorBecomes, AltsBecome, TermsBecome}
+use Rattle.ix_model.specs.Grammars.Factors.{factor_step, term_step, alt_step, factors_of_term, factors_of_alt, joined}
+use Rattle.ix_model.specs.Grammars.Written.{IsNamed}
+use Rattle.ix_model.specs.Grammars.Size.{term_size, alt_size}
+use Rattle.ix_model.specs.Expansion.Expanded as X
+use Rattle.ix_model.specs.Expansion.Expanded.{Next, line, next_syms, TermBecomes, RepeatBecomes, SeparatorBecomes, FactorBecomes, AltsBecome, TermsBecome}
 use Rattle.ix_model.proofs.Folds.{the_folds, fold_alt}
 use Rattle.ix_model.proofs.Sizes.{size_alt}
 use Rattle.ix_expand.specs.Growth.{next, Makes}

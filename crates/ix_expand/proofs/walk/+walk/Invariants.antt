@@ -1,9 +1,9 @@
 use Rattle.std.proofs.Common.{◌+◌, ◌*◌, ◌≤◌, map, sum, length, take, drop}
 use Rattle.std.specs.Prelude.{option_map}
 use Rattle.std.specs.List.{AllByRecursion}
-use Rattle.ix_model.specs.Expanded.{TermsBecome, AltsBecome}
-use Rattle.ix_model.specs.Factors.{factors_of_term, factors_of_alt, joined}
-use Rattle.ix_model.specs.Size.{factor_size, term_size, alt_size, separator_size}
+use Rattle.ix_model.specs.Expansion.Expanded.{TermsBecome, AltsBecome}
+use Rattle.ix_model.specs.Grammars.Factors.{factors_of_term, factors_of_alt, joined}
+use Rattle.ix_model.specs.Grammars.Size.{factor_size, term_size, alt_size, separator_size}
 use Rattle.ix_model.specs.declared.rules.Line.{Line}
 use Rattle.ix_expand.specs.Growth.{Makes, count_of}
 use Rattle.ix_expand.specs.SlotCounts.{slots_of, lines_slots}

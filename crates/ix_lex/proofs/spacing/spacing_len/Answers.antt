@@ -1,5 +1,5 @@
 use Rattle.std.proofs.Common.{sym, ◌∙◌, [], arith}
-use Rattle.ix_model.proofs.SpacingFacts.{saved_free}
+use Rattle.ix_spelling_laws.proofs.SpacingFacts.{saved_free}
 use Rattle.std.proofs.lemmas.List.{get_or_default}
 use Rattle.ix_lex.proofs.Scanning.{spaces_next}
 use Rattle.ix_lex.proofs.spacing.spacing_len.Goals as goal

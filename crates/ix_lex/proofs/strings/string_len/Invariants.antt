@@ -1,6 +1,6 @@
 use Rattle.std.proofs.Common.{◌≡◌, drop}
 use Rattle.std.specs.Prelude.{option_map}
-use Rattle.ix_model.specs.Reading.Lexing.{quoted}
+use Rattle.ix_spelling_laws.specs.Reading.Lexing.{quoted}
 use Rattle.ix_lex.proofs.Quoting.{left}
 use Rattle.ix_lex.proofs.strings.string_len.Given as goal
 

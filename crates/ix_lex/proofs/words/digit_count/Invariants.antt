@@ -1,5 +1,5 @@
 use Rattle.std.proofs.Common.{◌≡◌, length, ◌+◌, drop}
-use Rattle.ix_model.specs.Reading.Lexing.{digits_of}
+use Rattle.ix_spelling_laws.specs.Reading.Lexing.{digits_of}
 use Rattle.ix_lex.proofs.words.digit_count.Given as goal
 
 abbrev pub invariant-loop-n : goal.invariant-loop-n

@@ -1,5 +1,5 @@
 use Rattle.std.proofs.Common.{◌≡◌, length, ◌+◌, drop}
-use Rattle.ix_model.specs.Reading.Lexing.{word_of}
+use Rattle.ix_spelling_laws.specs.Reading.Lexing.{word_of}
 use Rattle.ix_lex.proofs.words.word_len.Given as goal
 
 abbrev pub invariant-loop-n : goal.invariant-loop-n

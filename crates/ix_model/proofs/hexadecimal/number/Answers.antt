@@ -1,6 +1,6 @@
 use Rattle.std.proofs.Common.{rules, ◌≡◌, ◌+◌, ◌*◌, drop, arith}
 use Rattle.std.proofs.lemmas.List.{drop_more}
-use Rattle.ix_model.specs.Codes.{code_value, value_after}
+use Rattle.ix_model.specs.Matching.Codes.{code_value, value_after}
 use Rattle.ix_model.proofs.HexDigits.{value_grows}
 use Rattle.ix_model.proofs.hexadecimal.number.Goals as goal
 

@@ -1,8 +1,8 @@
 use Rattle.std.proofs.Common.{◌≡◌, ◌≤◌, drop}
 use Rattle.std.specs.Prelude.{IsTrue}
 use Rattle.std.specs.List.{AllByRecursion}
-use Rattle.ix_model.specs.Codes.{code_value, value_after}
-use Rattle.ix_model.specs.Spells.{is_hex_digit}
+use Rattle.ix_model.specs.Matching.Codes.{code_value, value_after}
+use Rattle.ix_model.specs.Spelling.Spells.{is_hex_digit}
 use Rattle.ix_model.proofs.hexadecimal.number.Given as goal
 
 -- what is read so far, and that what is left are digits

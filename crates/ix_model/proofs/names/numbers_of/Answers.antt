@@ -1,7 +1,7 @@
 use Rattle.std.proofs.Common.{◌≡◌, ◌+◌, ◌++◌, ◌∷◌, [], List, ℕ, take, length, subst, sym, ap, ◌∙◌, arith}
 use Rattle.std.proofs.lemmas.List.{map_more, length-map, length-take-le}
 use Rattle.ix_model.specs.declared.grammar.Rule.{Rule}
-use Rattle.ix_model.specs.Names.{AreNumbersOf, names_of}
+use Rattle.ix_model.specs.Grammars.Names.{AreNumbersOf, names_of}
 use Rattle.ix_model.proofs.FirstNames.{one_more_name}
 use Rattle.ix_model.proofs.names.numbers_of.Goals as goal
 

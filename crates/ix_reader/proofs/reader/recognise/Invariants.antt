@@ -1,5 +1,5 @@
 use Rattle.std.proofs.Common.{◌≡◌, drop}
-use Rattle.ix_model.specs.Reading.Machine.{run, start}
+use Rattle.ix_spelling_laws.specs.Reading.Machine.{run, start}
 use Rattle.ix_lex.specs.Spans.{AreTokens, lexed}
 use Rattle.ix_reader.specs.Outline.{whether}
 use Rattle.ix_reader.specs.Views.{state_of}

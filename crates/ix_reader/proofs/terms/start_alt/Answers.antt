@@ -1,6 +1,6 @@
 use Rattle.std.proofs.Common.{sym, subst}
-use Rattle.ix_model.specs.Reading.Lexing.{semi, bar}
-use Rattle.ix_model.specs.Reading.Machine as M
+use Rattle.ix_spelling_laws.specs.Reading.Lexing.{semi, bar}
+use Rattle.ix_spelling_laws.specs.Reading.Machine as M
 use Rattle.ix_reader.specs.declared.machine.Lexeme.{Lexeme}
 use Rattle.ix_reader.specs.Views.{Gives, lexeme_of, work_of, state_of}
 use Rattle.ix_reader.proofs.terms.start_alt.Goals as goal

@@ -1,7 +1,7 @@
 use Rattle.std.proofs.Common.{arith, Any}
-use Rattle.ix_model.specs.Breach.{IsCodePoint}
-use Rattle.ix_model.specs.Factors.{codes_of_member}
-use Rattle.ix_model.specs.Spells.{IsHex}
+use Rattle.ix_model.specs.Grammars.Breach.{IsCodePoint}
+use Rattle.ix_model.specs.Grammars.Factors.{codes_of_member}
+use Rattle.ix_model.specs.Spelling.Spells.{IsHex}
 use Rattle.ix_sets.specs.Kinds.{IsWritten}
 use Rattle.ix_sets.proofs.Gaining.{gains_nothing, gains_more, gains_all, gains_as, some_of_any, any_of_some}
 use Rattle.ix_sets.proofs.Parts.{all_at}

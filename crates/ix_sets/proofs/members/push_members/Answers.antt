@@ -1,5 +1,5 @@
 use Rattle.std.proofs.lemmas.Result.{on_ok_weaker}
-use Rattle.ix_model.specs.Sets.{IsOfSome}
+use Rattle.ix_model.specs.Matching.Sets.{IsOfSome}
 use Rattle.ix_sets.proofs.Gaining.{gains_both}
 use Rattle.ix_sets.proofs.Parts.{some_is, is_some}
 use Rattle.ix_sets.proofs.members.push_members.Goals as goal

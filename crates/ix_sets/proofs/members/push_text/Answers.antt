@@ -1,5 +1,5 @@
 use Rattle.std.proofs.Common.{◌≡◌, arith}
-use Rattle.ix_model.specs.Sets.{IsOneOf}
+use Rattle.ix_model.specs.Matching.Sets.{IsOneOf}
 use Rattle.ix_sets.proofs.Gaining.{gains_nothing, gains_one, gains_more, gains_all, gains_as}
 use Rattle.ix_sets.proofs.Parts.{one_of_some, some_of_one}
 use Rattle.ix_sets.proofs.members.push_text.Goals as goal

@@ -1,5 +1,5 @@
 use Rattle.std.proofs.Common.{◌<◌, refl, arith}
-use Rattle.ix_model.specs.ExampleRules.{shown}
+use Rattle.ix_examples.specs.SmallRules.{shown}
 use Rattle.ix_slots.proofs.laws.rules_without_a_terminal.Goals as goal
 
 pub returns : goal.returns

@@ -1,5 +1,5 @@
 use Rattle.std.proofs.Common.{ap, arith, ◌++◌, ◌+◌, ◌-◌, ◌∷◌, []}
-use Rattle.ix_model.specs.Numbering.{slot}
+use Rattle.ix_model.specs.Expansion.Numbering.{slot}
 use Rattle.ix_slots.proofs.Dots.{dots_are, next_dot}
 use Rattle.ix_slots.proofs.Counting.{added}
 use Rattle.ix_slots.proofs.numbering.add_dots.Goals as goal

@@ -1,5 +1,5 @@
 use Rattle.std.proofs.Common.{◌≡◌, ◌++◌, ◌+◌, ◌-◌}
-use Rattle.ix_model.specs.Numbering.{dots_from}
+use Rattle.ix_model.specs.Expansion.Numbering.{dots_from}
 use Rattle.ix_slots.proofs.Dots.{dots}
 use Rattle.ix_slots.proofs.numbering.add_dots.Given as goal
 

@@ -1,5 +1,5 @@
 use Rattle.std.proofs.Common.{◌≡◌, ◌+◌, length, drop}
-use Rattle.ix_model.specs.Numbering.{rules_from}
+use Rattle.ix_model.specs.Expansion.Numbering.{rules_from}
 use Rattle.ix_slots.proofs.numbering.slot_count.Given as goal
 
 -- the slots that were counted and those of the rules that are left are all

@@ -1,6 +1,6 @@
 use Rattle.std.proofs.Common.{◌≡◌, ◌∷◌, [], replicate}
-use Rattle.ix_model.specs.Expanded.{line}
-use Rattle.ix_model.specs.ExampleRules.{shown}
+use Rattle.ix_model.specs.Expansion.Expanded.{line}
+use Rattle.ix_examples.specs.SmallRules.{shown}
 use Rattle.ix_slots.proofs.tests.lines_of_one_literal.Given as goal
 
 abbrev pub invariant-loop-made : goal.invariant-loop-made

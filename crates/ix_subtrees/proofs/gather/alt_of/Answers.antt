@@ -1,5 +1,5 @@
 use Rattle.std.proofs.Common.{◌≡◌, ◌∙◌, refl, ap, sym, Some, None}
-use Rattle.ix_model.specs.Slots.{sym_after}
+use Rattle.ix_model.specs.Expansion.Slots.{sym_after}
 use Rattle.ix_subtrees.proofs.LastSlots.{last_of_reads, reads_last_by}
 use Rattle.ix_subtrees.proofs.Found.{made_same}
 use Rattle.ix_subtrees.proofs.gather.alt_of.Goals as goal

@@ -2,7 +2,7 @@ use Rattle.std.proofs.Common.{rules, ◌≡◌, ap, subst, ℕ, Option, Some, If
 use Rattle.ix_model.specs.declared.grammar.Mark.{Mark}
 use Rattle.ix_model.specs.declared.rules.Sym.{Sym}
 use Rattle.ix_model.specs.declared.rules.Sym.TheVariants.{Rule}
-use Rattle.ix_model.specs.SlotPlaces.{HasNext}
+use Rattle.ix_model.specs.Expansion.SlotPlaces.{HasNext}
 use Rattle.ix_subtrees.specs.Places.{rule_group}
 use Rattle.ix_subtrees.proofs.Lists.{if_some_by}
 use Rattle.ix_subtrees.proofs.place.place_of.Goals as goal

@@ -1,7 +1,7 @@
 use Rattle.std.proofs.Common.{rules, ◌≡◌, ◌∙◌, sym, ap, ◌+◌, ◌-◌, ◌≤◌, ℕ, arith}
 use Rattle.ix_model.specs.declared.rules.Sym.{Sym}
-use Rattle.ix_model.specs.Slots.{sym_after}
-use Rattle.ix_model.specs.SlotPlaces.{HasNext}
+use Rattle.ix_model.specs.Expansion.Slots.{sym_after}
+use Rattle.ix_model.specs.Expansion.SlotPlaces.{HasNext}
 use Rattle.ix_model.proofs.SlotReaders.{next_reads, reads_next}
 use Rattle.ix_subtrees.proofs.Lists.{if_some_by}
 use Rattle.ix_subtrees.proofs.place.symbol_before.Goals as goal

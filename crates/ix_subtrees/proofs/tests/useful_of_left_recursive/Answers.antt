@@ -1,6 +1,6 @@
 use Rattle.std.proofs.Common.{◌∙◌, sym, subst, List, arith}
 use Rattle.ix_model.specs.declared.sub.Sub.{Sub}
-use Rattle.ix_model.specs.Parts.{Parts}
+use Rattle.ix_model.specs.Expansion.Parts.{Parts}
 use Rattle.ix_subtrees.specs.UsefulSubs.{AreParts}
 use Rattle.ix_subtrees.specs.Examples.{left_recursive}
 use Rattle.ix_subtrees.proofs.LeftRecursion.{parts_left}

@@ -1,7 +1,7 @@
 use Rattle.std.proofs.Common.{rules}
-use Rattle.ix_closure.proofs.EveryOrder.{every_order}
-use Rattle.ix_closure.proofs.FirstClaims.{opening_in_order}
-use Rattle.ix_closure.proofs.Opening.{opening_balanced}
+use Rattle.ix_closure.proofs.Closing.EveryOrder.{every_order}
+use Rattle.ix_closure.proofs.Tidying.FirstClaims.{opening_in_order}
+use Rattle.ix_closure.proofs.Balancing.Opening.{opening_balanced}
 use Rattle.ix_closure.proofs.state.Core.begin.Goals as goal
 
 pub invariant_of-result : goal.invariant_of-result

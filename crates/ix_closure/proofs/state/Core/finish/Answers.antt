@@ -1,12 +1,12 @@
 use Rattle.std.proofs.Common.{◌∙◌, ◌≤◌, ◌+◌, ◌-◌, ◌*◌, [], ap, sym, subst, refl, length}
 use Rattle.std.specs.List.{count_by}
-use Rattle.ix_model.specs.Parts.{Parts}
+use Rattle.ix_model.specs.Expansion.Parts.{Parts}
 use Rattle.ix_cluster.specs.Banks.{facts_of, is_descriptor}
 use Rattle.ix_closure.specs.Events.{Event}
 use Rattle.ix_closure.specs.Runs.{rests}
 use Rattle.ix_closure.specs.Seen.{Core}
-use Rattle.ix_closure.proofs.FewDescriptors.{few_descriptors}
-use Rattle.ix_closure.proofs.Finishing.{from_on_ok, event_falls, reached_further}
+use Rattle.ix_closure.proofs.Weighing.FewDescriptors.{few_descriptors}
+use Rattle.ix_closure.proofs.Closing.Finishing.{from_on_ok, event_falls, reached_further}
 use Rattle.ix_closure.proofs.state.Core.finish.Goals as goal
 
 pub loop-core-init : goal.loop-core-init

@@ -2,7 +2,7 @@ use Rattle.std.proofs.Common.{subst, rules}
 use Rattle.ix_cluster.specs.Banks.{facts_of}
 use Rattle.ix_closure.specs.Closure.{IsClosure}
 use Rattle.ix_closure.specs.Seen.{Core}
-use Rattle.ix_closure.proofs.QuietClosure.{quiet_closure}
+use Rattle.ix_closure.proofs.Closing.QuietClosure.{quiet_closure}
 use Rattle.ix_closure.proofs.state.Core.owed.Goals as goal
 
 pub returns-clause-closure : goal.returns-clause-closure

@@ -1,7 +1,7 @@
 use Rattle.std.proofs.Common.{◌<◌, length, ap, subst, rules, arith, OnOk, slice_set}
 use Rattle.ix_closure.specs.Events.{Event}
 use Rattle.ix_closure.specs.Seen.{State, Core}
-use Rattle.ix_closure.proofs.CoreSteps.{has_slot, is_ready, ok_event, stays_balanced}
+use Rattle.ix_closure.proofs.Due.CoreSteps.{has_slot, is_ready, ok_event, stays_balanced}
 use Rattle.ix_closure.proofs.state.Core.step.Goals as goal
 
 pub home_for-m-requires-clause-slot : goal.home_for-m-requires-clause-slot

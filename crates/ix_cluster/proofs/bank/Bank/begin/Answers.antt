@@ -1,12 +1,10 @@
-use Rattle.std.proofs.Common.{arith, ◌≡◌, sym, ap, rules, []}
+use Rattle.std.proofs.Common.{arith, ◌≡◌, sym, ap, rules, [], List, length, subst}
 use Rattle.ix_cluster.specs.Steps.{after_call}
 use Rattle.ix_cluster.specs.declared.fact.Fact.{Fact}
-use Rattle.std.proofs.Common.{List}
 use Rattle.ix_cluster.specs.Consistent.{EdgesAreCalled}
 use Rattle.ix_cluster.proofs.CalledEdges.{called-call, called-none_yet}
 use Rattle.ix_cluster.proofs.Handing.{handed-call}
 use Rattle.ix_cluster.proofs.Listing.{AreListed-begin}
-use Rattle.std.proofs.Common.{length, subst}
 use Rattle.ix_cluster.specs.Room.{unclaimed_in}
 use Rattle.ix_cluster.specs.Sound.{IsSound}
 use Rattle.ix_cluster.proofs.Soundness.{sound-begin}

@@ -1,5 +1,5 @@
 use Rattle.std.proofs.Common.{arith}
-use Rattle.ix_model.proofs.Judging.{named_below}
+use Rattle.ix_conformance_laws.proofs.Judging.{named_below}
 use Rattle.ix_expand.proofs.Naming.{found, found_is_named}
 use Rattle.ix_expand.proofs.source.Source.rule_named.Goals as goal
 

@@ -1,11 +1,10 @@
-use Rattle.std.proofs.Common.{◌≡◌, rules, ap, sym, ◌∙◌, List, true, false}
+use Rattle.std.proofs.Common.{◌≡◌, rules, ap, sym, ◌∙◌, List, true, false, subst}
 use Rattle.std.specs.Prelude.{nat_lt, slice_get}
 use Rattle.std.specs.Option.{option_copied}
 use Rattle.std.specs.List.Sorted.{IsPartitionedBy, IsPartitionPoint}
-use Rattle.std.proofs.Common.{subst}
 use Rattle.std.proofs.lemmas.List.Sorted.{IsPartitionPoint-from_clause}
 use Rattle.ix_model.specs.declared.char_set.CharRange.{CharRange}
-use Rattle.ix_model.specs.Ranges.{AreApart}
+use Rattle.ix_model.specs.Matching.Ranges.{AreApart}
 use Rattle.ix_model.proofs.Held.{parted, holds_at, holds_none}
 use Rattle.ix_model.proofs.char_set.CharSet.contains.Goals as goal
 

@@ -1,5 +1,5 @@
 use Rattle.std.proofs.Common.{◌∙◌, subst, List, ℕ, IfSome, IfNone, ◌≢◌, Some, slice_get}
-use Rattle.ix_model.specs.Names.{IsFirstAt}
+use Rattle.ix_model.specs.Grammars.Names.{IsFirstAt}
 use Rattle.ix_model.proofs.FirstNames.{some_first, none_first}
 use Rattle.ix_model.proofs.names.Names.first.Goals as goal
 

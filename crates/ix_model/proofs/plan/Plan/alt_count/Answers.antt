@@ -1,6 +1,6 @@
 use Rattle.std.proofs.Common.{ap, subst, List, length, arith}
 use Rattle.ix_model.specs.declared.rules.Line.{Line}
-use Rattle.ix_model.specs.Planned.{IsPlanned}
+use Rattle.ix_model.specs.Expansion.Planned.{IsPlanned}
 use Rattle.ix_model.proofs.Readers.{lines_fit}
 use Rattle.ix_model.proofs.plan.Plan.alt_count.Goals as goal
 

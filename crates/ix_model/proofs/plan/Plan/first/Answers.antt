@@ -2,9 +2,9 @@ use Rattle.std.proofs.Common.{◌≡◌, rules, ap, sym, ◌∙◌, subst, List,
 use Rattle.std.specs.List.Sorted.{IsPartitionedBy, IsPartitionPoint}
 use Rattle.std.proofs.lemmas.List.Sorted.{IsPartitionPoint-from_clause}
 use Rattle.ix_model.specs.declared.plan.SlotInfo.{SlotInfo}
-use Rattle.ix_model.specs.Parts.{Parts}
-use Rattle.ix_model.specs.Planned.{IsPlanned}
-use Rattle.ix_model.specs.Numbering.{is_before}
+use Rattle.ix_model.specs.Expansion.Parts.{Parts}
+use Rattle.ix_model.specs.Expansion.Planned.{IsPlanned}
+use Rattle.ix_model.specs.Expansion.Numbering.{is_before}
 use Rattle.ix_model.proofs.Readers.{first_is, split_by}
 use Rattle.ix_model.proofs.plan.Plan.first.Goals as goal
 

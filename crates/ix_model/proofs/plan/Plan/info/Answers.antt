@@ -1,7 +1,7 @@
 use Rattle.std.proofs.Common.{◌≡◌, arith, subst}
 use Rattle.std.proofs.lemmas.Grind.{common_steps}
-use Rattle.ix_model.specs.Slots.{info_at}
-use Rattle.ix_model.specs.Planned.{IsPlanned}
+use Rattle.ix_model.specs.Expansion.Slots.{info_at}
+use Rattle.ix_model.specs.Expansion.Planned.{IsPlanned}
 use Rattle.ix_model.proofs.Readers.{head_there, alt_there}
 use Rattle.ix_model.proofs.plan.Plan.info.Goals as goal
 

@@ -1,8 +1,8 @@
 use Rattle.std.proofs.Common.{◌≡◌, ap, List, length, subst, arith}
 use Rattle.std.proofs.lemmas.Option.{slice_get_within}
 use Rattle.ix_model.specs.declared.rules.Sym.{Sym}
-use Rattle.ix_model.specs.Planned.{IsPlanned}
-use Rattle.ix_model.specs.Numbered.{syms_at}
+use Rattle.ix_model.specs.Expansion.Planned.{IsPlanned}
+use Rattle.ix_model.specs.Expansion.Numbered.{syms_at}
 use Rattle.ix_model.proofs.Readers.{last_is}
 use Rattle.ix_model.proofs.plan.Plan.last.Goals as goal
 

@@ -1,5 +1,5 @@
 use Rattle.std.proofs.Common.{subst}
-use Rattle.ix_model.specs.Planned.{IsPlanned}
+use Rattle.ix_model.specs.Expansion.Planned.{IsPlanned}
 use Rattle.ix_model.proofs.Readers.{next_is}
 use Rattle.ix_model.proofs.plan.Plan.next.Goals as goal
 

@@ -1,6 +1,6 @@
 use Rattle.std.proofs.Common.{rules, ◌↔◌, ◌<◌, IsTrue, length}
 use Rattle.std.specs.Prelude.{nat_lt}
-use Rattle.ix_model.proofs.Frames.{useful_tree, tree_root, root_useful}
+use Rattle.ix_closure_laws.proofs.Frames.{useful_tree, tree_root, root_useful}
 use Rattle.ix_subtrees.proofs.WrittenUses.{derived_useful, useful_derived}
 use Rattle.ix_subtrees.proofs.Roots.{listed_useful, useful_listed}
 use Rattle.ix_subtrees.proofs.set.SubSet.root.Goals as goal

@@ -1,0 +1,5 @@
+pub mod Commands
+pub mod Firsts
+pub mod Offsets
+pub mod OneAnswer
+pub mod Refusals

@@ -1,0 +1,4 @@
+//! That words and files have one answer at most.
+#![tactic(auto)]
+
+pub mod laws;

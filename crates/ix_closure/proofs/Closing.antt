@@ -1,0 +1,6 @@
+-- Quiet states have exactly the closure.
+pub mod EveryOrder
+pub mod Finishing
+pub mod OneClosure
+pub mod QuietClosure
+pub mod QuietRuns

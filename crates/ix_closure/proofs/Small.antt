@@ -1,0 +1,6 @@
+-- Worked examples.
+pub mod SmallAlternatives
+pub mod SmallEvents
+pub mod SmallStates
+pub mod SmallSteps
+pub mod SmallUntidy

@@ -1,0 +1,5 @@
+pub mod ClosedLaws
+pub mod Reached
+pub mod SlotLaws
+pub mod TwoWays
+pub mod UsefulLaws

@@ -1,0 +1,4 @@
+//! Laws of slots, of the closure, and of the subtrees of it that derivations use.
+#![tactic(auto)]
+
+pub mod laws;

@@ -1,0 +1,4 @@
+pub mod ByTests
+pub mod FactorLists
+pub mod Judging
+pub mod SpelledNumbers

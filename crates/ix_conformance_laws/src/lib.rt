@@ -1,0 +1,4 @@
+//! Laws of breaches and of conforming grammars.
+#![tactic(auto)]
+
+pub mod laws;

@@ -1,5 +1,0 @@
-use Rattle.ix_model.proofs.Reaching.{reached_part, useful_reached}
-use Rattle.ix_model.proofs.closure_laws.useful_is_part.Goals as goal
-
-pub returns : goal.returns
-returns c = λ plan sub planned h. reached_part plan planned sub.slot sub.left sub.pivot sub.right (useful_reached plan planned sub h)

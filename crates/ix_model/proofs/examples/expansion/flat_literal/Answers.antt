@@ -1,6 +1,0 @@
-use Rattle.std.proofs.Common.{refl, None, true, [], ◌∷◌, arith}
-use Rattle.ix_model.specs.ExampleRules.{shown}
-use Rattle.ix_model.proofs.examples.expansion.flat_literal.Goals as goal
-
-pub returns-clause-tree : goal.returns-clause-tree
-returns-clause-tree c = (None, refl, shown 0 ∷ [], (_, _, refl, refl, refl), refl, (0, _, refl, refl, (refl, refl, (0, true, _, refl, refl, (refl, omega arith, refl)))))

@@ -1,8 +1,0 @@
-use Rattle.std.proofs.Common.{refl}
-use Rattle.ix_model.proofs.examples.places.counted_from_zero.Goals as goal
-
-pub returns-clause-named : goal.returns-clause-named
-returns-clause-named c = (_, refl, refl)
-
-pub returns-clause-terms : goal.returns-clause-terms
-returns-clause-terms c = (_, refl, (_, refl, refl))

@@ -1,5 +1,0 @@
-use Rattle.std.proofs.Common.{◌≡◌, refl, codes, arith}
-use Rattle.ix_model.proofs.examples.places.unique_names.Goals as goal
-
-pub returns-clause-two : goal.returns-clause-two
-returns-clause-two c = λ unique. let x : 0 ≡ 1 = unique 0 1 (codes "S") (_, refl, refl) (_, refl, refl) in omega (arith, x)

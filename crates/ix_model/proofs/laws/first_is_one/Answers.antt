@@ -1,5 +1,0 @@
-use Rattle.ix_model.proofs.Once.{first_is_one}
-use Rattle.ix_model.proofs.laws.first_is_one.Goals as goal
-
-pub returns : goal.returns
-returns c = first_is_one

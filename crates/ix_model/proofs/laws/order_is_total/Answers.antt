@@ -1,5 +1,0 @@
-use Rattle.ix_model.proofs.Total.{compare}
-use Rattle.ix_model.proofs.laws.order_is_total.Goals as goal
-
-pub returns : goal.returns
-returns c = λ g s d e t i j u h k. compare g s u d e t i j h k

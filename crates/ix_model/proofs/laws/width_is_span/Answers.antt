@@ -1,5 +1,0 @@
-use Rattle.ix_model.proofs.Widths.{derived_width}
-use Rattle.ix_model.proofs.laws.width_is_span.Goals as goal
-
-pub returns : goal.returns
-returns c = derived_width

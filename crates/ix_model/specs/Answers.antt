@@ -1,0 +1,6 @@
+-- The table of answers.
+pub mod Answer
+pub mod CommandLine
+pub mod Decoding
+pub mod Outcome
+pub mod Places

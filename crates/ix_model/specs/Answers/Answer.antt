@@ -1,0 +1,89 @@
+-- What a command answers, where the files that it names hold what a map tells: the table of its outcomes, each with all that it comes from.
+-- The first that applies is the answer: each says that those before it do not. What `sample` answers is not said here.
+-- Source: Invisible XML 1.0, "Parsing" and "Conformance"; the limits, the order and the statuses are this project's own.
+use Rattle.std.specs.Prelude.{◌≡◌, ◌⊎◌, ℕ, ◌<◌, ◌≤◌, List, length, Option, Some, IsUtf8}
+use Rattle.std.specs.Str.Lossy.{utf8_valid_len}
+use Rattle.ix_model.specs.declared.grammar.Grammar.{Grammar}
+use Rattle.ix_model.specs.declared.state.State.TheVariants.{Single, Ambiguous as Several}
+use Rattle.ix_model.specs.Derivations.Trees.{Tree}
+use Rattle.ix_model.specs.Derivations.Derives.{IsDerivation, Ambiguous}
+use Rattle.ix_model.specs.Derivations.Order.{First}
+use Rattle.ix_model.specs.Documents.Gives.{gives_root}
+use Rattle.ix_model.specs.Answers.Decoding.{decoded}
+use Rattle.ix_model.specs.Spelling.Spells.{Spells}
+use Rattle.ix_model.specs.Spelling.Depth.{depth}
+use Rattle.ix_model.specs.Grammars.Breach.{Fault, Breach, LeastBreach}
+use Rattle.ix_model.specs.Documents.Dyn.{Dyn, HasNoRefusal}
+use Rattle.ix_model.specs.Derivations.Offset.{Offset}
+use Rattle.ix_model.specs.Answers.Places.{line_of, column_of}
+use Rattle.ix_model.specs.Answers.CommandLine.{parse, check, IsCommand, HasNoForm}
+use Rattle.ix_model.specs.Answers.Outcome.{Outcome, no_form, grammar_too_long, grammar_not_utf8, no_grammar, too_deep, not_conforming, conforms, text_too_long, text_not_utf8, failed, refused, document, status_of, output_of, message_of}
+
+-- the bytes of a grammar file, at most
+abbrev pub grammar_limit : ℕ
+grammar_limit = 1048576
+
+-- the bytes of a text, at most
+abbrev pub text_limit : ℕ
+text_limit = 16777216
+
+-- the parentheses that may stand open at once
+abbrev pub depth_limit : ℕ
+depth_limit = 100
+
+-- the bytes are UTF-8, and not more than the limit
+abbrev pub IsText : ℕ → List ℕ → Type 0
+IsText limit bytes = (length bytes ≤ limit) × IsUtf8 bytes
+
+-- the bytes spell the grammar, and it is not too deep
+abbrev pub HoldsGrammar : List ℕ → Grammar → Type 0
+HoldsGrammar bytes g = IsText grammar_limit bytes × Spells (decoded bytes) g × (depth g ≤ depth_limit)
+
+-- the bytes spell a conforming grammar
+abbrev pub HoldsConforming : List ℕ → Grammar → Type 0
+HoldsConforming bytes g = HoldsGrammar bytes g × ((fault : Fault) → ¬ (Breach g fault))
+
+-- the bytes are no conforming grammar, and this is why
+abbrev pub GrammarRefused : List ℕ → Outcome → Type 0
+GrammarRefused bytes grammar_too_long = grammar_limit < length bytes
+GrammarRefused bytes (grammar_not_utf8 valid) = (length bytes ≤ grammar_limit) × ¬ (IsUtf8 bytes) × (valid ≡ utf8_valid_len bytes)
+GrammarRefused bytes no_grammar = IsText grammar_limit bytes × ((g : Grammar) → ¬ (Spells (decoded bytes) g))
+GrammarRefused bytes too_deep = IsText grammar_limit bytes × (g : Grammar) × Spells (decoded bytes) g × (depth_limit < depth g)
+GrammarRefused bytes (not_conforming fault) = (g : Grammar) × HoldsGrammar bytes g × LeastBreach g fault
+GrammarRefused bytes _ = ⊥
+
+module _ (g : Grammar) where
+  -- what comes of a text under a conforming grammar: no derivation, or the first one, which is a document or is none
+  abbrev pub Parsed : List ℕ → Outcome → Type 0
+  Parsed s (failed offset line column) = ((d : Tree) → ¬ (IsDerivation g s d)) × Offset g s offset × (line ≡ line_of s offset) × (column ≡ column_of s offset)
+  Parsed s (refused code) = (d : Tree) × First g s d × Dyn (gives_root s g d) code
+  Parsed s (document gs Several) = (d : Tree) × First g s d × (gs ≡ gives_root s g d) × HasNoRefusal gs × Ambiguous g s
+  Parsed s (document gs Single) = (d : Tree) × First g s d × (gs ≡ gives_root s g d) × HasNoRefusal gs × ¬ (Ambiguous g s)
+  Parsed s _ = ⊥
+
+  -- what comes of the bytes of a text
+  abbrev pub TextAnswered : List ℕ → Outcome → Type 0
+  TextAnswered bytes text_too_long = text_limit < length bytes
+  TextAnswered bytes (text_not_utf8 valid) = (length bytes ≤ text_limit) × ¬ (IsUtf8 bytes) × (valid ≡ utf8_valid_len bytes)
+  TextAnswered bytes outcome = IsText text_limit bytes × Parsed (decoded bytes) outcome
+
+module _ (words : List (List ℕ)) (map : List ℕ → Option (List ℕ)) where
+  -- the words ask for `check`: the grammar conforms, or it is refused
+  abbrev pub CheckAnswered : Outcome → Type 0
+  CheckAnswered outcome = (name bytes : List ℕ) × IsCommand words (check name) × (map name ≡ Some bytes) × (
+      GrammarRefused bytes outcome
+      ⊎ ((g : Grammar) × HoldsConforming bytes g × (outcome ≡ conforms)))
+
+  -- the words ask for `parse`: the grammar is refused, or the text is answered under it; a text under a grammar that is refused is not looked at
+  abbrev pub ParseAnswered : Outcome → Type 0
+  ParseAnswered outcome = (grammar text bytes : List ℕ) × (workers : ℕ) × IsCommand words (parse grammar text workers) × (map grammar ≡ Some bytes) × (
+      GrammarRefused bytes outcome
+      ⊎ ((g : Grammar) × HoldsConforming bytes g × (s : List ℕ) × (map text ≡ Some s) × TextAnswered g s outcome))
+
+  -- what comes of the words
+  abbrev pub Answered : Outcome → Type 0
+  Answered outcome = (HasNoForm words × (outcome ≡ no_form)) ⊎ (CheckAnswered outcome ⊎ ParseAnswered outcome)
+
+  -- the status, the output and the message, which is empty where there is none
+  abbrev pub Answer : (status : ℕ) (output message : List ℕ) → Type 0
+  Answer status output message = (outcome : Outcome) × Answered outcome × (status ≡ status_of outcome) × (output ≡ output_of outcome) × (message ≡ message_of outcome)

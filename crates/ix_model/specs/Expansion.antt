@@ -1,0 +1,13 @@
+-- The numbered rules, their slots, and trees over them.
+pub mod Expanded
+pub mod FlatDerives
+pub mod FlatTrees
+pub mod Lift
+pub mod Lower
+pub mod Numbered
+pub mod Numbering
+pub mod Parts
+pub mod Planned
+pub mod SlotPlaces
+pub mod Slots
+pub mod Walk

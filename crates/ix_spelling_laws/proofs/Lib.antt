@@ -1,0 +1,9 @@
+pub mod ByReading
+pub mod CharacterFacts
+pub mod LexemeFacts
+pub mod ReadingAccepts
+pub mod ReadingComplete
+pub mod ReadingRest
+pub mod ReadingSound
+pub mod SpacingFacts
+pub mod TokenFacts

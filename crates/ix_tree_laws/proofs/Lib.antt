@@ -1,0 +1,12 @@
+pub mod Asym
+pub mod Choice
+pub mod Found
+pub mod FoundLists
+pub mod FoundNodes
+pub mod FoundSequences
+pub mod FoundTerms
+pub mod FoundWithin
+pub mod Once
+pub mod Roots
+pub mod Total
+pub mod Widths

@@ -1,0 +1,11 @@
+use Rattle.std.proofs.Common.{refl}
+use Rattle.ix_model.proofs.Forming.{factor_of_one}
+use Rattle.ix_model.proofs.Forms.{out_lit, out_call}
+use Rattle.ix_worked_examples.proofs.documents.calls_mark_first.Goals as goal
+
+pub returns-clause-gives : goal.returns-clause-gives
+returns-clause-gives c = simp (factor_of_one, out_lit, out_call) refl
+
+pub returns-clause-bytes : goal.returns-clause-bytes
+unfolding lib.Utf8.encode
+returns-clause-bytes c = simp (factor_of_one, out_lit, out_call) refl

@@ -1,0 +1,24 @@
+ghost use Rattle.std.specs.Prelude.{◌≡◌, [], ◌∷◌, codes, None, Some};
+ghost use Rattle.ix_model.specs.declared.grammar.Term.{One, Star};
+ghost use Rattle.ix_model.specs.Spelling.Depth.{depth};
+ghost use Rattle.ix_model.specs.Grammars.Factors.{codes_of, ranges_of, classes_of, calls_of};
+ghost use Rattle.ix_examples.specs.SmallGrammars.{alternative, rule, grammar, literal, quoted, of_term};
+ghost use Rattle.ix_examples.specs.SmallSpellings.{forms, two_deep, in_order, in_parentheses};
+
+/// Parentheses around one another count, those beside one another and those in a string do not.
+pub fn open_at_once()
+    ensures around { depth two_deep ≡ 2 }
+    ensures in_string { depth (of_term (quoted (codes "(("))) ≡ 0 }
+    ensures beside { depth (grammar (rule (codes "S") (alternative (One (in_parentheses (quoted (codes "a"))) ∷ One (in_parentheses (quoted (codes "b"))) ∷ []) ∷ []) ∷ [])) ≡ 1 }
+    ensures separator { depth (of_term (Star (literal (codes "a")) (Some (in_parentheses (quoted (codes ",")))))) ≡ 1 }
+    ensures second_rule { depth (grammar (rule (codes "S") [] ∷ rule (codes "b") (alternative (One (in_parentheses (quoted (codes "a"))) ∷ []) ∷ []) ∷ [])) ≡ 1 }
+    ensures all_forms { depth forms ≡ 2 }
+{}
+
+/// What stands in a grammar is listed in its order.
+pub fn in_the_order_of_the_grammar()
+    ensures numbers { codes_of in_order ≡ codes "1" ∷ codes "2" ∷ codes "3" ∷ codes "4" ∷ codes "5" ∷ [] }
+    ensures calls { calls_of in_order ≡ codes "b" ∷ codes "c" ∷ codes "e" ∷ [] }
+    ensures classes { classes_of in_order ≡ codes "L" ∷ [] }
+    ensures ranges { ranges_of in_order ≡ (3, 4) ∷ [] }
+{}

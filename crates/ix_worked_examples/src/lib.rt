@@ -1,0 +1,22 @@
+//! Worked examples of the definitions, each proved: what holds, and beside it what does not.
+#![tactic(auto)]
+
+pub mod answers;
+pub mod choice;
+pub mod closure;
+pub mod commands;
+pub mod conformance;
+pub mod depth;
+pub mod derivations;
+pub mod documents;
+pub mod expansion;
+pub mod order;
+pub mod places;
+pub mod plans;
+pub mod readings;
+pub mod refusals;
+pub mod sizes;
+pub mod spelling;
+pub mod terminals;
+pub mod useful;
+pub mod walks;
