@@ -13,7 +13,7 @@ ghost use Rattle.ix_expand.specs.Laws.{ConformingIsPlanOf, ExpansionLifts, Expan
 ghost use Rattle.ix_expand.specs.SlotCounts.{flats_slots, slots_of, sep_symbols};
 ghost use Rattle.ix_expand.specs.Sound.{IsSound};
 
-use ix_model::expansion_laws::{lift_is_exact, lower_is_exact};
+use ix_expansion_laws::laws::{lift_is_exact, lower_is_exact};
 
 /// The rules that a conforming grammar is expanded to are those of a plan of it.
 pub fn conforming_is_plan_of()

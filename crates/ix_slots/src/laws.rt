@@ -6,7 +6,7 @@ ghost use Rattle.ix_slots.specs.Laws.{ExpandedIsPlannable};
 ghost use Rattle.ix_slots.specs.Plannable.{planned, IsPlannable};
 ghost use Rattle.ix_slots.specs.Examples.{example_rules};
 
-use ix_model::expansion_laws::expanded_is_planned;
+use ix_expansion_laws::laws::expanded_is_planned;
 
 /// The numbered rules of a grammar within the limits, and a text within them, can be planned.
 pub fn expanded_is_plannable()
