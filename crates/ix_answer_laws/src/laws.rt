@@ -1,6 +1,5 @@
-//! The law of answers. Its function's contract is the law; the body is empty.
-//! Laws of what comes out of a text. Each function's contract is the law; the bodies are empty.
-//! Laws of the words after the program's name. Each function's contract is the law; the bodies are empty.
+//! Laws of words, of what comes out of a text, and of answers: there is one at most, or none. Each function's contract is
+//! the law; the bodies are empty.
 ghost use Rattle.ix_answer_laws.specs.AnswerLaws.{AnswerIsOne};
 ghost use Rattle.ix_answer_laws.specs.CommandLaws.{CommandIsOne, CommandOrNone};
 ghost use Rattle.ix_answer_laws.specs.OutcomeLaws.{OffsetIsOne, RefusalIsOne, RefusalOrNone};

@@ -1,12 +1,6 @@
-//! The law that a text with a derivation has a first one. The contract is the law; the body is empty.
-//! Laws of derivations and of their order. Each function's contract is the law; the bodies are empty.
+//! Laws of derivations, of their order, and of the first of them. Each function's contract is the law; the bodies are empty.
 ghost use Rattle.ix_tree_laws.specs.Choice.{FirstExists};
 ghost use Rattle.ix_tree_laws.specs.Laws.{FirstIsOne, OrderIsAsymmetric, OrderIsTotal, RootIsCall, WidthIsSpan};
-
-/// Where a text has a derivation, one is first, also where it has infinitely many. No two are: `laws::first_is_one`.
-pub fn first_exists()
-    ensures { FirstExists }
-{}
 
 /// A tree is as wide as each span that it derives.
 pub fn width_is_span()
@@ -31,4 +25,9 @@ pub fn order_is_asymmetric()
 /// No text has two first derivations.
 pub fn first_is_one()
     ensures { FirstIsOne }
+{}
+
+/// Where a text has a derivation, one is first, also where it has infinitely many. No two are: `first_is_one`.
+pub fn first_exists()
+    ensures { FirstExists }
 {}
