@@ -22,7 +22,11 @@ use Rattle.ix_model.specs.Grammars.Names.{HasUniqueNames}
 use Rattle.ix_model.specs.Derivations.Trees.{Tree, text, insertion, node, group, present, absent, no_item, list, Trees, no_tree, and, Repeated, one, again, again_after, tree_count}
 use Rattle.ix_model.specs.Derivations.Derives.{Derives, DerivesFirst, Repeats, IsDerivation}
 use Rattle.ix_model.specs.Documents.Bare.{Bare, bare_text, bare_insertion, bare_node, Bares, none, more, join, factor_of, separator_of, is_shown_by, terms_at, effective, rule_alts, rule_name, rule_mark, bare, bare_all, bare_repeated, bare_root, no_term}
-use Rattle.ix_model.specs.Expansion.FlatTrees.{FlatTrees, flat_node, flats_and, no_flat}
+use Rattle.ix_model.specs.Expansion.Parts.{Parts}
+use Rattle.ix_model.specs.Expansion.Planned.{IsPlanOf}
+use Rattle.ix_model.specs.Expansion.FlatTrees.{FlatTree, FlatTrees, flat_node, flats_and, no_flat}
+use Rattle.ix_model.specs.Expansion.FlatDerives.{IsFlatDerivation}
+use Rattle.ix_model.specs.Expansion.Lift.{lift}
 use Rattle.ix_model.specs.Expansion.Expanded as X
 use Rattle.ix_model.specs.Expansion.Expanded.{Next, next_syms, HasFlat, TermBecomes, RepeatBecomes, FactorBecomes, AltsBecome, TermsBecome, Expanded}
 use Rattle.ix_model.specs.Expansion.Numbered.{kind_at, mark_at, sym_at}
@@ -31,7 +35,9 @@ use Rattle.ix_model.specs.Expansion.Walk.{walk, walk_all, wrapped, mark_of}
 use Rattle.ix_model.specs.Documents.WalkGives.{IsWalk, AreWalks}
 use Rattle.ix_model.proofs.Forming.{factor_of_one, factor_of_opt, factor_of_star, factor_of_plus, separator_of_star, separator_of_plus}
 use Rattle.ix_model.proofs.Forms.{out_lit, out_set, out_call, out_insert, out_group}
-use Rattle.ix_expansion_laws.proofs.Lifting.{kind_is, rules_at}
+use Rattle.ix_model.proofs.Readers.{get_within}
+use Rattle.ix_expansion_laws.proofs.Lifting.{kind_is, rules_at, lift_derives}
+use Rattle.ix_expansion_laws.proofs.LowerOfLift.{lower_lift}
 use Rattle.ix_expansion_laws.proofs.Lowering.{to_alt, to_term, sym_is, map_get, lower_count, of_one, of_option, of_plus, of_star, of_literal, of_set, of_insert, of_call, of_group, of_repeat, of_none, of_some, IsStarred}
 
 -- the walks of some bare trees, and of others behind them
@@ -281,3 +287,13 @@ module _ (g : Grammar) (rules : Rules) (s : List ℕ) where
         let o = opened 0 n ds (all_walk ds) None rule alt 0 (length s) at at_alt (subst (λ ts. DerivesFirst g s ds ts 0 (length s)) (sym same) h.1) in
         subst (λ y. AreWalks rules (bare_root g y) (walk rules (lower rules y (sy.Rule 0 None)) (sy.Rule 0 None))) (sym e)
         (one_walk rules (bare_node (rule_name g 0) (effective None (rule_mark g 0)) (bare_all g ds (terms_at (rule_alts g 0) n))) _ o)
+
+-- the walk of a flat derivation is that of the bare tree of its written tree
+pub flat_walks : (g : Grammar) (plan : Parts) (e : FlatTree) → IsPlanOf g plan → IsFlatDerivation plan e →
+    AreWalks plan.rules (bare_root g (lift plan.rules e)) (walk plan.rules e (sy.Rule 0 None))
+flat_walks g plan e p h =
+    let rule = get_within g.rules 0 p.first in
+    let written = lift_derives g plan.rules plan.slots plan.text p.text p.expanded rule.0 rule.1 e h in
+    let same = lower_lift g plan.rules plan.slots plan.text p.text p.expanded rule.0 rule.1 e h in
+    let walks = derivation_walks g plan.rules plan.text p.expanded p.unique (lift plan.rules e) written in
+    subst (λ y. AreWalks plan.rules (bare_root g (lift plan.rules e)) (walk plan.rules y (sy.Rule 0 None))) same walks

@@ -19,7 +19,8 @@ use Rattle.ix_model.specs.Expansion.Expanded.{Expanded}
 use Rattle.ix_model.specs.Expansion.Lift.{lift}
 use Rattle.ix_model.specs.Expansion.Lower.{lower}
 use Rattle.ix_model.specs.Expansion.Walk.{walk}
-use Rattle.ix_model.specs.Documents.WalkGives.{WalkGives}
+use Rattle.ix_model.specs.Documents.WalkGives.{AreWalks, WalkGives}
+use Rattle.ix_model.specs.Documents.Bare.{bare_root}
 
 -- the lift of a flat derivation is a derivation of the text, and lowered again it is itself
 abbrev pub LiftIsExact : Type 0
@@ -33,7 +34,13 @@ LowerIsExact =
     (g : Grammar) (plan : Parts) (d : Tree) → IsPlanOf g plan → IsDerivation g plan.text d →
     IsFlatDerivation plan (lower plan.rules d (sym.Rule 0 None)) × (lift plan.rules (lower plan.rules d (sym.Rule 0 None)) ≡ d)
 
--- the walk of a flat derivation gives what its written tree gives to the document
+-- the walk of a flat derivation is the walk of the bare tree of its written tree, step for step
+abbrev pub WalkIsOfBareTree : Type 0
+WalkIsOfBareTree =
+    (g : Grammar) (plan : Parts) (e : FlatTree) → IsPlanOf g plan → IsFlatDerivation plan e →
+    AreWalks plan.rules (bare_root g (lift plan.rules e)) (walk plan.rules e (sym.Rule 0 None))
+
+-- so it gives what its written tree gives to the document
 abbrev pub WalkGivesDocument : Type 0
 WalkGivesDocument =
     (g : Grammar) (plan : Parts) (e : FlatTree) → IsPlanOf g plan → IsFlatDerivation plan e →

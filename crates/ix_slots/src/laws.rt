@@ -2,7 +2,7 @@
 ghost use Rattle.std.specs.Prelude.{◌≡◌, ◌≢◌, [], ◌∷◌, codes};
 ghost use Rattle.ix_examples.specs.SmallRules.{rules_of, only, shown};
 ghost use Rattle.ix_model.specs.Expansion.Numbering.{slot};
-ghost use Rattle.ix_slots.specs.Laws.{ExpandedIsPlannable};
+ghost use Rattle.ix_slots.specs.Laws.{ExpandedIsPlannable, TerminalIsWritten};
 ghost use Rattle.ix_slots.specs.Plannable.{planned, IsPlannable};
 ghost use Rattle.ix_slots.specs.Examples.{example_rules};
 
@@ -14,6 +14,12 @@ pub fn expanded_is_plannable()
 {
     expanded_is_planned();
 }
+
+/// Where a literal or a set of a grammar has become a terminal, the terminal matches a span of a text exactly where the
+/// written literal or set does: what `matches` answers is where the written term matches.
+pub fn terminal_is_written()
+    ensures { TerminalIsWritten }
+{}
 
 /// The plan of `S: "ab", ["0"-"9"]; .` has three slots for the first alternative and one for the second.
 pub fn plan_of_two_alternatives()

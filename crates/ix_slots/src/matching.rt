@@ -8,7 +8,7 @@ use ix_model::{CharSet, Plan, Terminal};
 use sqlite_items::at;
 
 /// Where the terminal ends if it stands at the position in the text, in characters from 0. `None` exactly where it does
-/// not stand there.
+/// not stand there. What stands there is what the written literal or set matches: `laws::terminal_is_written`.
 pub fn matches(plan: &Plan, terminal: u32, pos: u32) -> Option<u32>
     requires terminal { terminal < length plan.now.rules.terminals }
     requires pos { pos ≤ length plan.now.text }

@@ -8,6 +8,7 @@ ghost use Rattle.ix_model.specs.Expansion.Walk.{walk};
 ghost use Rattle.ix_model.specs.Documents.WalkGives.{IsWalk, AreWalks, WalkGives};
 ghost use Rattle.ix_examples.specs.SmallGrammars.{only_a};
 ghost use Rattle.ix_examples.specs.SmallTrees.{a_tree};
+ghost use Rattle.ix_worked_examples.specs.SmallWalks.{replaced, replaced_rules, replaced_tree, replaced_flat};
 ghost use Rattle.ix_examples.specs.SmallRules.{helper, a_rules, insert_rules, list_rules, a_flat, insert_flat, two_items_flat};
 
 /// The walk of `a` under `S: "a".`
@@ -38,4 +39,20 @@ pub fn walks_give()
     ensures not_left { ¬ (AreWalks a_rules (more (bare_node (codes "S") Element none) none) (Enter 0 Element ∷ [])) }
     ensures no_name { ¬ (IsWalk a_rules (bare_node (codes "T") Element none) (Enter 0 Element ∷ Leave ∷ [])) }
     ensures not_nothing { ¬ (WalkGives a_rules (codes "a") (Enter 0 Element ∷ Text 0 1 true ∷ Leave ∷ []) nothing) }
+{}
+
+/// A deleted text is a step as one that is shown is, and each of two equal insertions is a step by its own number.
+pub fn walk_of_deleted_and_inserted()
+    ensures steps { walk replaced_rules replaced_flat (helper 0) ≡ Enter 0 Element ∷ Text 0 1 false ∷ Insert 0 ∷ Insert 1 ∷ Leave ∷ [] }
+    ensures not_dropped { walk replaced_rules replaced_flat (helper 0) ≢ Enter 0 Element ∷ Insert 0 ∷ Insert 1 ∷ Leave ∷ [] }
+    ensures not_one_number { walk replaced_rules replaced_flat (helper 0) ≢ Enter 0 Element ∷ Text 0 1 false ∷ Insert 0 ∷ Insert 0 ∷ Leave ∷ [] }
+{}
+
+/// Of a bare tree too: without the deleted text, and with one insertion for two, the steps are no walk of it.
+pub fn bare_walk_of_deleted_and_inserted()
+    ensures steps { AreWalks replaced_rules (bare_root replaced replaced_tree) (Enter 0 Element ∷ Text 0 1 false ∷ Insert 0 ∷ Insert 1 ∷ Leave ∷ []) }
+    ensures not_dropped { ¬ (AreWalks replaced_rules (bare_root replaced replaced_tree) (Enter 0 Element ∷ Insert 0 ∷ Insert 1 ∷ Leave ∷ [])) }
+    ensures not_shown { ¬ (AreWalks replaced_rules (bare_root replaced replaced_tree) (Enter 0 Element ∷ Text 0 1 true ∷ Insert 0 ∷ Insert 1 ∷ Leave ∷ [])) }
+    ensures not_one { ¬ (AreWalks replaced_rules (bare_root replaced replaced_tree) (Enter 0 Element ∷ Text 0 1 false ∷ Insert 0 ∷ Leave ∷ [])) }
+    ensures in_order { ¬ (AreWalks replaced_rules (bare_root replaced replaced_tree) (Enter 0 Element ∷ Insert 0 ∷ Text 0 1 false ∷ Insert 1 ∷ Leave ∷ [])) }
 {}
