@@ -1,4 +1,5 @@
 pub mod ClosedLaws
+pub mod PartLists
 pub mod Reached
 pub mod SlotLaws
 pub mod TwoWays

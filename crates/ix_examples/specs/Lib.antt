@@ -6,3 +6,4 @@ pub mod SmallReadings
 pub mod SmallRules
 pub mod SmallSpellings
 pub mod SmallTrees
+pub mod TestPlans

@@ -1,6 +1,7 @@
 ghost use Rattle.std.specs.Prelude.{◌≡◌, ◌↔◌, ◌<◌, IfSome, IsSome, IsTrue, None};
+ghost use Rattle.std.specs.Char.{digit_value};
 ghost use Rattle.ix_model.specs.Grammars.Breach.{IsCodePoint};
-ghost use Rattle.ix_model.specs.Matching.Codes.{code_value, digit_value};
+ghost use Rattle.ix_model.specs.Matching.Codes.{code_value};
 ghost use Rattle.ix_model.specs.Spelling.Spells.{IsHex, is_hex_digit};
 
 /// The character whose number has these hexadecimal digits, of either case and of any length. `None` where no character

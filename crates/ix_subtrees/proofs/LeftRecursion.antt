@@ -22,7 +22,8 @@ use Rattle.ix_closure_laws.proofs.ClosedWithin.{part_within}
 use Rattle.ix_model.proofs.SlotReaders.{first_reads, last_reads, next_reads}
 use Rattle.ix_examples.proofs.SmallPlans.{literal_stands}
 use Rattle.ix_subtrees.specs.Nodes.{Among}
-use Rattle.ix_subtrees.specs.Examples.{left_recursive, left_recursive_subs}
+use Rattle.ix_subtrees.specs.Examples.{left_recursive_subs}
+use Rattle.ix_examples.specs.TestPlans.{left_recursive}
 use Rattle.ix_subtrees.specs.Laws.{LeftRecursiveIsListed, LeftRecursiveIsListedOnce}
 use Rattle.ix_subtrees.proofs.Lists.{contains_among}
 use Rattle.ix_subtrees.proofs.SmallSets.{by_same, same_sub, PartOf}

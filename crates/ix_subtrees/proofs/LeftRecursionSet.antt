@@ -9,7 +9,8 @@ use Rattle.ix_subtrees.specs.declared.entry.Entry.{Entry}
 use Rattle.ix_subtrees.specs.Nodes.{Among}
 use Rattle.ix_subtrees.specs.Entries.{entry_for, AreInOrder}
 use Rattle.ix_subtrees.specs.Sets.{sub_of_entry, IsLastOf}
-use Rattle.ix_subtrees.specs.Examples.{left_recursive, left_recursive_subs, left_recursive_useful, left_recursive_set}
+use Rattle.ix_subtrees.specs.Examples.{left_recursive_subs, left_recursive_useful, left_recursive_set}
+use Rattle.ix_examples.specs.TestPlans.{left_recursive}
 use Rattle.ix_subtrees.specs.Laws.{ThreeAreUseful, ClosureIsNotUseful, WaysAreListed, UselessWayIsNotListed, LastSlotEnds, InnerSlotDoesNotEnd, AltsAreListed, EmptyAltIsNotLeftOut, ListsAreTheSet, WaysAreNotTheSet}
 use Rattle.ix_subtrees.proofs.Found.{made_same}
 use Rattle.ix_subtrees.proofs.LastSlots.{last_of_reads}

@@ -11,7 +11,8 @@ use Rattle.ix_examples.specs.SmallPlans.{literal}
 use Rattle.ix_closure_laws.proofs.ClosedWithin.{part_within}
 use Rattle.ix_closure_laws.proofs.Frames.{useful_of}
 use Rattle.ix_closure_laws.proofs.Reaching.{reached_part, useful_reached}
-use Rattle.ix_subtrees.specs.Examples.{left_recursive, left_recursive_subs}
+use Rattle.ix_subtrees.specs.Examples.{left_recursive_subs}
+use Rattle.ix_examples.specs.TestPlans.{left_recursive}
 use Rattle.ix_subtrees.specs.Laws.{LeftRecursiveIsUseful}
 use Rattle.ix_subtrees.proofs.LeftRecursion.{planned_left, IsNext, next_left, last_left, IsOneOf, part_left, next_0, next_1, last_2, last_3, empty_part, part_up_to, letter_part, end_at, parts_left}
 use Rattle.ix_subtrees.proofs.SmallSets.{same_sub}

@@ -28,7 +28,8 @@ use Rattle.ix_subtrees.specs.Nodes.{span_code, node_code, code_at, no_node, Amon
 use Rattle.ix_subtrees.specs.Places.{rule_group, IsPlace, ArePlaces}
 use Rattle.ix_subtrees.specs.Walks.{no_place, codes_of, next_codes, next_at, Linked, here, further, AreLinked}
 use Rattle.ix_subtrees.specs.Subs.{no_sub, node_for, sub_of, IsFit, AreNodes, kept}
-use Rattle.ix_subtrees.specs.UsefulSubs.{AreParts, AreUseful}
+use Rattle.ix_subtrees.specs.UsefulSubs.{AreUseful}
+use Rattle.ix_closure_laws.specs.PartLists.{AreParts}
 use Rattle.ix_subtrees.proofs.Lists.{among_contains, contains_among}
 use Rattle.ix_subtrees.proofs.Visits.{among_left, among_right, among_parts}
 

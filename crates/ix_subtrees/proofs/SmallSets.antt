@@ -17,8 +17,8 @@ use Rattle.ix_model.proofs.SlotReaders.{first_reads, last_reads, next_reads, rea
 use Rattle.ix_examples.proofs.SmallPlans.{planned_alternatives, literal_stands}
 use Rattle.ix_examples.proofs.SmallClosures.{part_a, part_1, no_part_b, part_c, part_1c, part_3c}
 use Rattle.ix_subtrees.specs.Nodes.{Among}
-use Rattle.ix_subtrees.specs.UsefulSubs.{AreParts}
-use Rattle.ix_subtrees.specs.Examples.{repeated_nothing}
+use Rattle.ix_closure_laws.specs.PartLists.{AreParts}
+use Rattle.ix_examples.specs.TestPlans.{repeated_nothing}
 use Rattle.ix_subtrees.proofs.Lists.{among_contains, contains_among}
 
 pub same_sub : (s l k r a b c d : ℕ) → s ≡ a → l ≡ b → k ≡ c → r ≡ d → sub_at s l k r ≡ sub_at a b c d

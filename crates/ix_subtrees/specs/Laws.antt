@@ -5,9 +5,11 @@ use Rattle.ix_model.specs.declared.sub.Sub.{Sub}
 use Rattle.ix_model.specs.Closure.Useful.{sub_at, Useful}
 use Rattle.ix_examples.specs.SmallPlans.{only_a}
 use Rattle.ix_subtrees.specs.Entries.{entry_for, AreInOrder, AreChoicesOf}
-use Rattle.ix_subtrees.specs.Examples.{left_recursive, left_recursive_subs, left_recursive_useful, left_recursive_set}
+use Rattle.ix_subtrees.specs.Examples.{left_recursive_subs, left_recursive_useful, left_recursive_set}
+use Rattle.ix_examples.specs.TestPlans.{left_recursive}
 use Rattle.ix_subtrees.specs.Sets.{IsLastOf, AreWays, AreAlts, IsSetOf}
-use Rattle.ix_subtrees.specs.UsefulSubs.{AreParts, AreUseful}
+use Rattle.ix_subtrees.specs.UsefulSubs.{AreUseful}
+use Rattle.ix_closure_laws.specs.PartLists.{AreParts}
 
 -- the closure of S: "a". on `a` has the subtree of the letter
 abbrev pub PartsAreListed : Type 0

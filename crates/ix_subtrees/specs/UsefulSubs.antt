@@ -3,12 +3,7 @@ use Rattle.std.specs.Prelude.{◌↔◌, List}
 use Rattle.std.specs.List.{Contains}
 use Rattle.ix_model.specs.declared.sub.Sub.{Sub}
 use Rattle.ix_model.specs.Expansion.Parts.{Parts}
-use Rattle.ix_model.specs.Closure.Closed.{Part}
 use Rattle.ix_model.specs.Closure.Useful.{Useful}
-
--- the list has the subtrees of the least set
-abbrev pub AreParts : Parts → List Sub → Type 0
-AreParts plan subs = (sub : Sub) → Contains subs sub ↔ Part plan sub.slot sub.left sub.pivot sub.right
 
 -- the list has the subtrees that are of use
 abbrev pub AreUseful : Parts → List Sub → Type 0

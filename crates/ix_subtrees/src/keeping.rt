@@ -1,7 +1,8 @@
 ghost use Rattle.std.specs.Prelude.{◌≡◌, [], ◌∷◌, ◌++◌, length, IfOk, OnOk, if◌then◌else◌};
 ghost use Rattle.ix_model.specs.Expansion.Planned.{IsPlanned};
 ghost use Rattle.ix_subtrees.specs.Subs.{kept, sub_of};
-ghost use Rattle.ix_subtrees.specs.UsefulSubs.{AreParts, AreUseful};
+ghost use Rattle.ix_subtrees.specs.UsefulSubs.{AreUseful};
+ghost use Rattle.ix_closure_laws.specs.PartLists.{AreParts};
 
 use crate::marking::marked;
 use crate::node::{Key, Node};

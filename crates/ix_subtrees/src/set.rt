@@ -8,7 +8,8 @@ ghost use Rattle.ix_model.specs.Closure.Useful.{sub_at};
 ghost use Rattle.ix_closure_laws.specs.UsefulLaws.{HasFlatDerivation};
 ghost use Rattle.ix_subtrees.specs.Entries.{AreInOrder, AreChoicesOf, entry_at};
 ghost use Rattle.ix_subtrees.specs.Sets.{IsSetOf, AreWays, AreAlts, sub_of_entry};
-ghost use Rattle.ix_subtrees.specs.UsefulSubs.{AreParts, AreUseful};
+ghost use Rattle.ix_subtrees.specs.UsefulSubs.{AreUseful};
+ghost use Rattle.ix_closure_laws.specs.PartLists.{AreParts};
 
 use crate::choices::Choices;
 use crate::gather::{alts_of, ways_of};

@@ -1,50 +1,13 @@
-ghost use Rattle.std.specs.Prelude.{◌≡◌, [], ◌∷◌, codes, IfOk};
-ghost use Rattle.ix_model.specs.Expansion.Expanded.{line as a_line};
-ghost use Rattle.ix_model.specs.Expansion.Numbering.{slot};
-ghost use Rattle.ix_model.specs.Expansion.Planned.{IsPlanned};
-ghost use Rattle.ix_examples.specs.SmallPlans.{only_a, cycle, two_alternatives};
-ghost use Rattle.ix_subtrees.specs.Examples.{parts_of, flat, repeated_nothing, left_recursive, left_recursive_subs};
+ghost use Rattle.std.specs.Prelude.{◌≡◌, IfOk};
+ghost use Rattle.ix_examples.specs.TestPlans.{left_recursive as recursive};
+ghost use Rattle.ix_subtrees.specs.Examples.{left_recursive_subs};
 ghost use Rattle.ix_subtrees.specs.Sets.{IsSetOf};
 
 use crate::{SubSet, useful};
-use ix_model::{Flat, Kind, Line, Mark, Plan, Rules, SlotInfo, Sub, Sym, Terminal, Text};
-use sqlite_items::Items;
+use ix_examples::plans::{cycle, left_recursive, only_a, repeated_nothing, two_alternatives};
+use ix_model::Sub;
 use std::alloc::{AllocError, Global};
 use std::test::Fail;
-
-const A: Sym = Sym::Term {
-    terminal: 0,
-    shown: true,
-};
-
-const S: Sym = Sym::Rule {
-    rule: 0,
-    mark: None,
-};
-
-const LIST: Sym = Sym::Rule {
-    rule: 1,
-    mark: None,
-};
-
-const GROUP: Sym = Sym::Rule {
-    rule: 2,
-    mark: None,
-};
-
-fn line(alloc: Global, syms: &[Sym]) -> Result<Line, AllocError>
-    ensures { IfOk result (λ l. l ≡ a_line syms.now) }
-{
-    Ok(Line {
-        syms: Items::from_slice(alloc, syms)?,
-    })
-}
-
-fn at(head: u32, alt: u32, dot: u32) -> SlotInfo
-    ensures { result ≡ slot head alt dot }
-{
-    SlotInfo { head, alt, dot }
-}
 
 // The subtree of slot 0 over the empty text, and that over `a`.
 const OVER_NOTHING: Sub = Sub {
@@ -61,154 +24,7 @@ const OVER_A: Sub = Sub {
     right: 1,
 };
 
-// The plan of these rules, of which S is the only one with a name, with the literal "a".
-fn plan_of(
-    alloc: Global,
-    flats: Items<Flat>,
-    slots: Vec<SlotInfo>,
-    text: Vec<char>,
-) -> Result<Plan, AllocError>
-    requires { IsPlanned (parts_of flats slots.items text.items) }
-    ensures { IfOk result (λ plan. plan ≡ parts_of flats slots.items text.items) }
-{
-    let mut names = Items::new(alloc);
-    names.push(Text::from_slice(alloc, &['S'])?)?;
-    let mut terminals = Items::new(alloc);
-    terminals.push(Terminal::Lit(Text::from_slice(alloc, &['a'])?))?;
-    let rules = Rules {
-        names,
-        marks: Items::from_slice(alloc, &[Mark::Element])?,
-        flats,
-        terminals,
-        inserts: Items::new(alloc),
-    };
-    Ok(Plan::of(rules, slots, text))
-}
-
-// The plan of one rule S for one character.
-fn plan_of_lines(
-    alloc: Global,
-    lines: Items<Line>,
-    slots: &[SlotInfo],
-    text: char,
-) -> Result<Plan, AllocError>
-    requires { IsPlanned (parts_of (flat lines ∷ []) slots.now (text ∷ [])) }
-    ensures { IfOk result (λ plan. plan ≡ parts_of (flat lines ∷ []) slots.now (text ∷ [])) }
-{
-    let mut flats = Items::new(alloc);
-    flats.push(Flat {
-        kind: Kind::Named,
-        lines,
-    })?;
-    let slots = Vec::from_slice(alloc, slots)?;
-    plan_of(alloc, flats, slots, Vec::from_slice(alloc, &[text])?)
-}
-
-// `S: "a".` on `a`.
-fn plan_of_one(alloc: Global) -> Result<Plan, AllocError>
-    ensures { IfOk result (λ plan. plan ≡ only_a (codes "a")) }
-{
-    let mut lines = Items::new(alloc);
-    lines.push(line(alloc, &[A])?)?;
-    plan_of_lines(alloc, lines, &[at(0, 0, 0), at(0, 0, 1)], 'a')
-}
-
-// `S: "a".` on `b`.
-fn plan_of_none(alloc: Global) -> Result<Plan, AllocError>
-    ensures { IfOk result (λ plan. plan ≡ only_a (codes "b")) }
-{
-    let mut lines = Items::new(alloc);
-    lines.push(line(alloc, &[A])?)?;
-    plan_of_lines(alloc, lines, &[at(0, 0, 0), at(0, 0, 1)], 'b')
-}
-
-// `S: "a"; "a".` on `a`.
-fn plan_of_two(alloc: Global) -> Result<Plan, AllocError>
-    ensures { IfOk result (λ plan. plan ≡ two_alternatives (codes "a")) }
-{
-    let mut lines = Items::new(alloc);
-    lines.push(line(alloc, &[A])?)?;
-    lines.push(line(alloc, &[A])?)?;
-    plan_of_lines(
-        alloc,
-        lines,
-        &[at(0, 0, 0), at(0, 0, 1), at(0, 1, 0), at(0, 1, 1)],
-        'a',
-    )
-}
-
-// `S: S; "a".` on `a`.
-fn plan_of_cycle(alloc: Global) -> Result<Plan, AllocError>
-    ensures { IfOk result (λ plan. plan ≡ cycle (codes "a")) }
-{
-    let mut lines = Items::new(alloc);
-    lines.push(line(alloc, &[S])?)?;
-    lines.push(line(alloc, &[A])?)?;
-    plan_of_lines(
-        alloc,
-        lines,
-        &[at(0, 0, 0), at(0, 0, 1), at(0, 1, 0), at(0, 1, 1)],
-        'a',
-    )
-}
-
-// `S: ()+.` on the empty text.
-fn plan_of_repeated(alloc: Global) -> Result<Plan, AllocError>
-    ensures { IfOk result (λ plan. plan ≡ repeated_nothing) }
-{
-    let mut whole = Items::new(alloc);
-    whole.push(line(alloc, &[LIST])?)?;
-    let mut list = Items::new(alloc);
-    list.push(line(alloc, &[GROUP])?)?;
-    list.push(line(alloc, &[LIST, GROUP])?)?;
-    let mut group = Items::new(alloc);
-    group.push(line(alloc, &[])?)?;
-    let mut flats = Items::new(alloc);
-    flats.push(Flat {
-        kind: Kind::Named,
-        lines: whole,
-    })?;
-    flats.push(Flat {
-        kind: Kind::List,
-        lines: list,
-    })?;
-    flats.push(Flat {
-        kind: Kind::Group,
-        lines: group,
-    })?;
-    let slots = Vec::from_slice(
-        alloc,
-        &[
-            at(0, 0, 0),
-            at(0, 0, 1),
-            at(1, 0, 0),
-            at(1, 0, 1),
-            at(1, 1, 0),
-            at(1, 1, 1),
-            at(1, 1, 2),
-            at(2, 0, 0),
-        ],
-    )?;
-    plan_of(alloc, flats, slots, Vec::new(alloc))
-}
-
-// `S: S, "a"; .` on this many times `a`.
-fn plan_of_left_recursive(alloc: Global, count: u32) -> Result<Plan, AllocError>
-    ensures { IfOk result (λ plan. plan ≡ left_recursive count) }
-{
-    let mut lines = Items::new(alloc);
-    lines.push(line(alloc, &[S, A])?)?;
-    lines.push(line(alloc, &[])?)?;
-    let mut flats = Items::new(alloc);
-    flats.push(Flat {
-        kind: Kind::Named,
-        lines,
-    })?;
-    let slots = Vec::from_slice(alloc, &[at(0, 0, 0), at(0, 0, 1), at(0, 0, 2), at(0, 1, 0)])?;
-    plan_of(alloc, flats, slots, vec![in alloc; 'a'; count as usize]?)
-}
-
-// The subtrees of its closure, each once.
+// The subtrees of the closure of `S: S, "a"; .` on this many times `a`, each once.
 fn subs_of_left_recursive(alloc: Global, count: u32) -> Result<Vec<Sub>, AllocError>
     ensures { IfOk result (λ subs. subs.items ≡ left_recursive_subs count) }
 {
@@ -240,9 +56,9 @@ fn subs_of_left_recursive(alloc: Global, count: u32) -> Result<Vec<Sub>, AllocEr
 }
 
 fn useful_of_left_recursive(alloc: Global, count: u32) -> Result<SubSet, AllocError>
-    ensures { IfOk result (λ set. IsSetOf (left_recursive count) set) }
+    ensures { IfOk result (λ set. IsSetOf (recursive count) set) }
 {
-    let plan = plan_of_left_recursive(alloc, count)?;
+    let plan = left_recursive(alloc, count)?;
     let subs = subs_of_left_recursive(alloc, count)?;
     useful(alloc, &plan, &subs)
 }
@@ -250,7 +66,7 @@ fn useful_of_left_recursive(alloc: Global, count: u32) -> Result<SubSet, AllocEr
 #[test]
 fn one_derivation_uses_its_subtree(rt: HostRuntime) -> Result<(), Fail> {
     let alloc = rt.alloc();
-    let plan = plan_of_one(alloc)?;
+    let plan = only_a(alloc, &['a'])?;
     let set = useful(alloc, &plan, &[Sub { slot: 1, ..OVER_A }])?;
     assert_eq!(rt; set.count(), 1);
     assert!(rt; set.root());
@@ -264,7 +80,7 @@ fn one_derivation_uses_its_subtree(rt: HostRuntime) -> Result<(), Fail> {
 #[test]
 fn no_derivation_uses_none(rt: HostRuntime) -> Result<(), Fail> {
     let alloc = rt.alloc();
-    let plan = plan_of_none(alloc)?;
+    let plan = only_a(alloc, &['b'])?;
     let set = useful(alloc, &plan, &[])?;
     assert_eq!(rt; set.count(), 0);
     assert!(rt; !set.root());
@@ -274,7 +90,7 @@ fn no_derivation_uses_none(rt: HostRuntime) -> Result<(), Fail> {
 #[test]
 fn both_alternatives_are_listed(rt: HostRuntime) -> Result<(), Fail> {
     let alloc = rt.alloc();
-    let plan = plan_of_two(alloc)?;
+    let plan = two_alternatives(alloc, &['a'])?;
     let set = useful(
         alloc,
         &plan,
@@ -292,7 +108,7 @@ fn both_alternatives_are_listed(rt: HostRuntime) -> Result<(), Fail> {
 #[test]
 fn a_cycle_is_listed(rt: HostRuntime) -> Result<(), Fail> {
     let alloc = rt.alloc();
-    let plan = plan_of_cycle(alloc)?;
+    let plan = cycle(alloc, &['a'])?;
     let set = useful(
         alloc,
         &plan,
@@ -306,7 +122,7 @@ fn a_cycle_is_listed(rt: HostRuntime) -> Result<(), Fail> {
 #[test]
 fn repetitions_of_nothing_are_listed(rt: HostRuntime) -> Result<(), Fail> {
     let alloc = rt.alloc();
-    let plan = plan_of_repeated(alloc)?;
+    let plan = repeated_nothing(alloc)?;
     let set = useful(
         alloc,
         &plan,

@@ -1,7 +1,7 @@
 use Rattle.std.proofs.Common.{sym, subst, [], ◌∷◌}
 use Rattle.ix_model.specs.Expansion.Parts.{Parts}
 use Rattle.ix_model.specs.Closure.Useful.{sub_at}
-use Rattle.ix_subtrees.specs.UsefulSubs.{AreParts}
+use Rattle.ix_closure_laws.specs.PartLists.{AreParts}
 use Rattle.ix_subtrees.proofs.SmallSets.{parts_cycle}
 use Rattle.ix_ambig.proofs.tests.a_cycle_is_two_derivations.Goals as goal
 

@@ -1,7 +1,7 @@
 use Rattle.std.proofs.Common.{sym, subst, [], ◌∷◌}
 use Rattle.ix_model.specs.Expansion.Parts.{Parts}
 use Rattle.ix_model.specs.Closure.Useful.{sub_at}
-use Rattle.ix_subtrees.specs.UsefulSubs.{AreParts}
+use Rattle.ix_closure_laws.specs.PartLists.{AreParts}
 use Rattle.ix_subtrees.proofs.SmallSets.{parts_repeated}
 use Rattle.ix_ambig.proofs.tests.repetitions_of_nothing_are_two_derivations.Goals as goal
 

@@ -1,8 +1,8 @@
 use Rattle.std.proofs.Common.{◌∙◌, sym, subst, List, arith}
 use Rattle.ix_model.specs.declared.sub.Sub.{Sub}
 use Rattle.ix_model.specs.Expansion.Parts.{Parts}
-use Rattle.ix_subtrees.specs.UsefulSubs.{AreParts}
-use Rattle.ix_subtrees.specs.Examples.{left_recursive}
+use Rattle.ix_closure_laws.specs.PartLists.{AreParts}
+use Rattle.ix_examples.specs.TestPlans.{left_recursive}
 use Rattle.ix_subtrees.proofs.LeftRecursion.{parts_left}
 use Rattle.ix_subtrees.proofs.tests.useful_of_left_recursive.Goals as goal
 
