@@ -9,36 +9,25 @@ use Rattle.std.proofs.lemmas.Option.{slice_get_within, slice_get-map, slice_get-
 use Rattle.ix_model.specs.declared.grammar.Rule.{Rule}
 use Rattle.ix_model.specs.Grammars.Names.{names_of}
 use Rattle.ix_model.specs.Grammars.Breach.{IsFirstNot}
+use Rattle.ix_model.proofs.AllOf.{all_append, all_left, all_right}
 use Rattle.ix_errors.specs.Firsts.{IsSearchFor, IsRepeatedAt, NoneRepeatedBelow, IsSearchForRepeated}
 
 module _ {X : Type 0} (P : X → Type 0) where
-  all_append : (xs ys : List X) → AllByRecursion P xs → AllByRecursion P ys → AllByRecursion P (xs ++ ys)
-  all_append [] ys h k = k
-  all_append (x ∷ xs) ys h k = (h.0, all_append xs ys h.1 k)
-
-  pub all_left : (xs ys : List X) → AllByRecursion P (xs ++ ys) → AllByRecursion P xs
-  all_left [] ys h = tt
-  all_left (x ∷ xs) ys h = (h.0, all_left xs ys h.1)
-
-  pub all_right : (xs ys : List X) → AllByRecursion P (xs ++ ys) → AllByRecursion P ys
-  all_right [] ys h = h
-  all_right (x ∷ xs) ys h = all_right xs ys h.1
-
   -- the first stays the first where more comes behind
   pub first_then : (xs ys : List X) (x : X) → IsFirstNot P xs x → IsFirstNot P (xs ++ ys) x
   first_then xs ys x (before, after, e, h, n) = (before, after ++ ys, ap (λ zs. zs ++ ys) e ∙ append_assoc before (x ∷ after) ys, h, n)
 
   -- a search goes on where all before are as they should be
   pub search_on : (xs ys : List X) (o : Option X) → AllByRecursion P xs → IsSearchFor P ys o → IsSearchFor P (xs ++ ys) o
-  search_on xs ys None h k = all_append xs ys h k
-  search_on xs ys (Some x) h (before, after, e, k, n) = (xs ++ before, after, ap (λ zs. xs ++ zs) e ∙ sym (append_assoc xs before (x ∷ after)), all_append xs before h k, n)
+  search_on xs ys None h k = all_append P xs ys h k
+  search_on xs ys (Some x) h (before, after, e, k, n) = (xs ++ before, after, ap (λ zs. xs ++ zs) e ∙ sym (append_assoc xs before (x ∷ after)), all_append P xs before h k, n)
 
   module _ {Y : Type 0} (f : Y → List X) where
     -- what holds of all that a list gives holds of what one of it gives
     pub all_at : (ys : List Y) (i : ℕ) (y : Y) → i < length ys → AllByRecursion P (flat_map f ys) → AllByRecursion P (f (get_or ys i y))
     all_at [] i y l h = absurd (omega (arith, l))
-    all_at (z ∷ ys) zero y l h = all_left (f z) (flat_map f ys) h
-    all_at (z ∷ ys) (suc i) y l h = all_at ys i y (omega (arith, l)) (all_right (f z) (flat_map f ys) h)
+    all_at (z ∷ ys) zero y l h = all_left P (f z) (flat_map f ys) h
+    all_at (z ∷ ys) (suc i) y l h = all_at ys i y (omega (arith, l)) (all_right P (f z) (flat_map f ys) h)
 
     more : (ys : List Y) (i : ℕ) (y : Y) → i < length ys → flat_map f (take (i + 1) ys) ≡ flat_map f (take i ys) ++ f (get_or ys i y)
     more ys i y l = ap (flat_map f) (take_more ys i y l) ∙ flat_map-append f (take i ys) (get_or ys i y ∷ []) ∙ ap (λ zs. flat_map f (take i ys) ++ zs) (append-nil (f (get_or ys i y)))

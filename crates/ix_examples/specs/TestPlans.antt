@@ -4,6 +4,7 @@ use Rattle.ix_model.specs.declared.grammar.Mark.TheVariants.{Element}
 use Rattle.ix_model.specs.declared.plan.SlotInfo.{SlotInfo}
 use Rattle.ix_model.specs.declared.rules.Flat.{Flat}
 use Rattle.ix_model.specs.declared.rules.Kind.TheVariants.{Group, List as Repeated}
+use Rattle.ix_model.specs.declared.rules.Sym.{Sym}
 use Rattle.ix_model.specs.declared.rules.Terminal.{Terminal}
 use Rattle.ix_model.specs.declared.rules.Terminal.TheVariants as terminal
 use Rattle.ix_model.specs.Expansion.Parts.{Parts}
@@ -22,6 +23,10 @@ parts_of name flats slots terminals text = record {
   slots = slots;
   text = text;
 }
+
+-- of S with two alternatives, this symbol and "a"
+abbrev pub by_two : Sym → List ℕ → Parts
+by_two first = plan_of (codes "S" ∷ []) (named ((first ∷ []) ∷ (literal 0 ∷ []) ∷ []) ∷ []) (terminal.Lit (codes "a") ∷ []) []
 
 -- of E: E, "+", E; "1".
 abbrev pub sums : List ℕ → Parts

@@ -6,9 +6,9 @@ ghost use Rattle.ix_model.specs.Expansion.Expanded.{line as a_line};
 ghost use Rattle.ix_model.specs.Expansion.Numbering.{slot as a_slot};
 ghost use Rattle.ix_model.specs.Expansion.Planned.{IsPlanned};
 ghost use Rattle.ix_examples.specs.SmallPlans.{only_a as a_alone, cycle as a_cycle, two_alternatives as both_alternatives};
-ghost use Rattle.ix_examples.specs.TestPlans.{literals_of, parts_of, sums as all_sums, repeated_flats as flats_repeated, repeated_nothing as nothing_repeated, left_recursive as recursive};
+ghost use Rattle.ix_examples.specs.TestPlans.{literals_of, parts_of, by_two, sums as all_sums, repeated_flats as flats_repeated, repeated_nothing as nothing_repeated, left_recursive as recursive};
 
-use ix_model::{Flat, Kind, Line, Mark, Plan, Rules, SlotInfo, Sym, Terminal, Text};
+use ix_model::{Flat, Kind, Line, Mark, Plan, Rules, SlotInfo, Sub, Sym, Terminal, Text};
 use sqlite_items::Items;
 use std::alloc::{AllocError, Global};
 
@@ -114,13 +114,13 @@ pub fn only_a(alloc: Global, text: &[char]) -> Result<Plan, AllocError>
     )
 }
 
-/// `S: "a"; "a".` for a text.
-pub fn two_alternatives(alloc: Global, text: &[char]) -> Result<Plan, AllocError>
-    requires { length text.now < 2 ^ 32 }
-    ensures { IfOk result (λ plan. plan ≡ both_alternatives text.now) }
+// The plan of S with two alternatives, of this symbol and of "a".
+fn with_literal(alloc: Global, first: Sym, text: &[char]) -> Result<Plan, AllocError>
+    requires planned { IsPlanned (by_two first text.now) }
+    ensures { IfOk result (λ plan. plan ≡ by_two first text.now) }
 {
     let mut lines = Items::new(alloc);
-    lines.push(line(alloc, &[FIRST_LITERAL])?)?;
+    lines.push(line(alloc, &[first])?)?;
     lines.push(line(alloc, &[FIRST_LITERAL])?)?;
     plan_of(
         alloc,
@@ -132,22 +132,20 @@ pub fn two_alternatives(alloc: Global, text: &[char]) -> Result<Plan, AllocError
     )
 }
 
+/// `S: "a"; "a".` for a text.
+pub fn two_alternatives(alloc: Global, text: &[char]) -> Result<Plan, AllocError>
+    requires { length text.now < 2 ^ 32 }
+    ensures { IfOk result (λ plan. plan ≡ both_alternatives text.now) }
+{
+    with_literal(alloc, FIRST_LITERAL, text)
+}
+
 /// `S: S; "a".` for a text. The slots of the first alternative are 0 and 1, those of the second 2 and 3.
 pub fn cycle(alloc: Global, text: &[char]) -> Result<Plan, AllocError>
     requires { length text.now < 2 ^ 32 }
     ensures { IfOk result (λ plan. plan ≡ a_cycle text.now) }
 {
-    let mut lines = Items::new(alloc);
-    lines.push(line(alloc, &[FIRST_RULE])?)?;
-    lines.push(line(alloc, &[FIRST_LITERAL])?)?;
-    plan_of(
-        alloc,
-        'S',
-        only_rule(alloc, lines)?,
-        &[slot(0, 0, 0), slot(0, 0, 1), slot(0, 1, 0), slot(0, 1, 1)],
-        literals(alloc, &['a'])?,
-        Vec::from_slice(alloc, text)?,
-    )
+    with_literal(alloc, FIRST_RULE, text)
 }
 
 /// `E: E, "+", E; "1".` for a text. The slots of the first alternative are 0 to 3, those of the second 4 and 5.
@@ -237,3 +235,49 @@ pub fn left_recursive(alloc: Global, count: u32) -> Result<Plan, AllocError>
         vec![in alloc; 'a'; count as usize]?,
     )
 }
+
+/// The subtree that is the whole of the first alternative of `only_a`, `two_alternatives` or `cycle` on `a`.
+pub const BY_FIRST: Sub = Sub {
+    slot: 1,
+    left: 0,
+    pivot: 0,
+    right: 1,
+};
+
+/// That of the second alternative.
+pub const BY_SECOND: Sub = Sub {
+    slot: 3,
+    ..BY_FIRST
+};
+
+/// The subtree of slot 0 over the empty text.
+pub const OVER_NOTHING: Sub = Sub {
+    slot: 0,
+    left: 0,
+    pivot: 0,
+    right: 0,
+};
+
+/// The subtrees of the closure of `repeated_nothing`.
+pub const REPEATED: [Sub; 5] = [
+    Sub {
+        slot: 7,
+        ..OVER_NOTHING
+    },
+    Sub {
+        slot: 1,
+        ..OVER_NOTHING
+    },
+    Sub {
+        slot: 3,
+        ..OVER_NOTHING
+    },
+    Sub {
+        slot: 5,
+        ..OVER_NOTHING
+    },
+    Sub {
+        slot: 6,
+        ..OVER_NOTHING
+    },
+];

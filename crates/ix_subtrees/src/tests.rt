@@ -4,25 +4,13 @@ ghost use Rattle.ix_subtrees.specs.Examples.{left_recursive_subs};
 ghost use Rattle.ix_subtrees.specs.Sets.{IsSetOf};
 
 use crate::{SubSet, useful};
-use ix_examples::plans::{cycle, left_recursive, only_a, repeated_nothing, two_alternatives};
+use ix_examples::plans::{
+    BY_FIRST, BY_SECOND, OVER_NOTHING, REPEATED, cycle, left_recursive, only_a, repeated_nothing,
+    two_alternatives,
+};
 use ix_model::Sub;
 use std::alloc::{AllocError, Global};
 use std::test::Fail;
-
-// The subtree of slot 0 over the empty text, and that over `a`.
-const OVER_NOTHING: Sub = Sub {
-    slot: 0,
-    left: 0,
-    pivot: 0,
-    right: 0,
-};
-
-const OVER_A: Sub = Sub {
-    slot: 0,
-    left: 0,
-    pivot: 0,
-    right: 1,
-};
 
 // The subtrees of the closure of `S: S, "a"; .` on this many times `a`, each once.
 fn subs_of_left_recursive(alloc: Global, count: u32) -> Result<Vec<Sub>, AllocError>
@@ -67,10 +55,10 @@ fn useful_of_left_recursive(alloc: Global, count: u32) -> Result<SubSet, AllocEr
 fn one_derivation_uses_its_subtree(rt: HostRuntime) -> Result<(), Fail> {
     let alloc = rt.alloc();
     let plan = only_a(alloc, &['a'])?;
-    let set = useful(alloc, &plan, &[Sub { slot: 1, ..OVER_A }])?;
+    let set = useful(alloc, &plan, &[BY_FIRST])?;
     assert_eq!(rt; set.count(), 1);
     assert!(rt; set.root());
-    assert_eq!(rt; set.sub(0), Sub { slot: 1, ..OVER_A });
+    assert_eq!(rt; set.sub(0), BY_FIRST);
     assert_eq!(rt; set.ways(1, 0, 1), [0].as_slice());
     assert_eq!(rt; set.alts(0, 0, 1), [0].as_slice());
     assert!(rt; set.alts(0, 0, 0).is_empty() && set.ways(0, 0, 1).is_empty());
@@ -94,12 +82,12 @@ fn both_alternatives_are_listed(rt: HostRuntime) -> Result<(), Fail> {
     let set = useful(
         alloc,
         &plan,
-        &[Sub { slot: 3, ..OVER_A }, Sub { slot: 1, ..OVER_A }],
+        &[BY_SECOND, BY_FIRST],
     )?;
     assert_eq!(rt; set.count(), 2);
     assert_eq!(rt;
         (set.sub(0), set.sub(1)),
-        (Sub { slot: 1, ..OVER_A }, Sub { slot: 3, ..OVER_A })
+        (BY_FIRST, BY_SECOND)
     );
     assert_eq!(rt; set.alts(0, 0, 1), [0, 1].as_slice());
     Ok(())
@@ -112,7 +100,7 @@ fn a_cycle_is_listed(rt: HostRuntime) -> Result<(), Fail> {
     let set = useful(
         alloc,
         &plan,
-        &[Sub { slot: 3, ..OVER_A }, Sub { slot: 1, ..OVER_A }],
+        &[BY_SECOND, BY_FIRST],
     )?;
     assert_eq!(rt; set.count(), 2);
     assert_eq!(rt; set.alts(0, 0, 1), [0, 1].as_slice());
@@ -126,28 +114,7 @@ fn repetitions_of_nothing_are_listed(rt: HostRuntime) -> Result<(), Fail> {
     let set = useful(
         alloc,
         &plan,
-        &[
-            Sub {
-                slot: 7,
-                ..OVER_NOTHING
-            },
-            Sub {
-                slot: 1,
-                ..OVER_NOTHING
-            },
-            Sub {
-                slot: 3,
-                ..OVER_NOTHING
-            },
-            Sub {
-                slot: 5,
-                ..OVER_NOTHING
-            },
-            Sub {
-                slot: 6,
-                ..OVER_NOTHING
-            },
-        ],
+        &REPEATED,
     )?;
     assert_eq!(rt; set.count(), 5);
     assert_eq!(rt; set.alts(1, 0, 0), [0, 1].as_slice());
