@@ -1,10 +1,30 @@
 -- Trees over the small grammars of the worked examples.
 use Rattle.std.specs.Prelude.{ℕ, ◌+◌}
-use Rattle.ix_model.specs.Derivations.Trees.{Tree, text, insertion, node, group, present, list, no_tree, and, one, again_after}
+use Rattle.ix_model.specs.Derivations.Trees.{Tree, text, insertion, node, group, present, list, Trees, no_tree, and, one, again, again_after}
 
 -- a node with one tree
 abbrev pub node_of : ℕ → ℕ → Tree → Tree
 node_of r a d = node r a (and no_tree d)
+
+-- two trees
+abbrev pub pair : Tree → Tree → Trees
+pair d e = and (and no_tree d) e
+
+-- alternative a of a group, with the text from i to j
+abbrev pub chosen : ℕ → ℕ → ℕ → Tree
+chosen a i j = group a (and no_tree (text i j))
+
+-- a group with a text from i to k, and one from k to j
+abbrev pub halves : ℕ → ℕ → ℕ → Tree
+halves i k j = group 0 (pair (text i k) (text k j))
+
+-- a list of two items
+abbrev pub two_items : Tree → Tree → Tree
+two_items d e = list (again (one d) e)
+
+-- a list of two items with a separator between them
+abbrev pub separated : Tree → Tree → Tree → Tree
+separated d p e = list (again_after (one d) p e)
 
 -- the only derivation of `a` under `S: "a".`
 abbrev pub a_tree : Tree
