@@ -87,6 +87,21 @@ commas = Plus (literal (codes "a")) (Some (literal (codes ",")))
 abbrev pub parts : Grammar
 parts = grammar (rule (codes "S") (alternative (Opt (Group (alternative (One (deleted (codes "a")) ∷ []) ∷ alternative (quoted (codes "b") ∷ []) ∷ [])) ∷ Plus (literal (codes "c")) (Some (deleted (codes ","))) ∷ []) ∷ []) ∷ [])
 
+-- S: (A; B), D. A: C. C: "a". B: "a". D: E. E: F. F: "b".
+abbrev pub depths : Grammar
+depths = grammar (
+    rule (codes "S") (alternative (One (Group (alternative (call (codes "A") ∷ []) ∷ alternative (call (codes "B") ∷ []) ∷ [])) ∷ call (codes "D") ∷ []) ∷ [])
+    ∷ rule (codes "A") (alternative (call (codes "C") ∷ []) ∷ [])
+    ∷ rule (codes "C") (alternative (quoted (codes "a") ∷ []) ∷ [])
+    ∷ rule (codes "B") (alternative (quoted (codes "a") ∷ []) ∷ [])
+    ∷ rule (codes "D") (alternative (call (codes "E") ∷ []) ∷ [])
+    ∷ rule (codes "E") (alternative (call (codes "F") ∷ []) ∷ [])
+    ∷ rule (codes "F") (alternative (quoted (codes "b") ∷ []) ∷ []) ∷ [])
+
+-- S: a+. a: "x"+.
+abbrev pub runs : Grammar
+runs = grammar (rule (codes "S") (alternative (Plus (Call None (codes "a")) None ∷ []) ∷ []) ∷ rule (codes "a") (alternative (Plus (literal (codes "x")) None ∷ []) ∷ []) ∷ [])
+
 -- S: "t", -h. h: -g. g: @a. a: "v".
 abbrev pub hidden : Grammar
 hidden = grammar (

@@ -46,6 +46,20 @@ left_sum = sum_at 3 (sum_at 1 (one_at 0) (one_at 2)) (one_at 4)
 abbrev pub right_sum : Tree
 right_sum = sum_at 1 (one_at 0) (sum_at 3 (one_at 2) (one_at 4))
 
+-- `ab` under `depths`, with `a` by the first alternative of the group, or by the second
+abbrev pub deeper : Tree
+deeper = node 0 0 (pair (group 0 (and no_tree (node_of 1 0 (node_of 2 0 (text 0 1))))) (node_of 4 0 (node_of 5 0 (node_of 6 0 (text 1 2)))))
+
+abbrev pub shallower : Tree
+shallower = node 0 0 (pair (group 1 (and no_tree (node_of 3 0 (text 0 1)))) (node_of 4 0 (node_of 5 0 (node_of 6 0 (text 1 2)))))
+
+-- `xx` under `runs`, as one item of two characters, or as two items of one
+abbrev pub one_run : Tree
+one_run = node_of 0 0 (list (one (node_of 1 0 (two_items (text 0 1) (text 1 2)))))
+
+abbrev pub two_runs : Tree
+two_runs = node_of 0 0 (two_items (node_of 1 0 (list (one (text 0 1)))) (node_of 1 0 (list (one (text 1 2)))))
+
 -- `bc,c` under `parts`
 abbrev pub parts_tree : Tree
 parts_tree = node 0 0 (and (and no_tree (present (group 1 (and no_tree (text 0 1))))) (list (again_after (one (text 1 2)) (text 2 3) (text 3 4))))

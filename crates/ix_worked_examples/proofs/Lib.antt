@@ -1,3 +1,5 @@
+pub mod Called
+pub mod DepthsAndRuns
 pub mod FirstTexts
 pub mod PlanFacts
 pub mod Rivals

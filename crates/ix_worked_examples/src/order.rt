@@ -1,8 +1,9 @@
 ghost use Rattle.std.specs.Prelude.{◌≡◌, ◌≢◌, ◌<◌, ℕ, List, [], ◌∷◌, None, Some, codes};
 ghost use Rattle.ix_model.specs.Derivations.Trees.{Tree, text, insertion, node, group, present, absent, no_item, list, Trees, no_tree, and, Repeated, one, again, again_after};
+ghost use Rattle.ix_model.specs.Derivations.Derives.{Ambiguous};
 ghost use Rattle.ix_model.specs.Derivations.Order.{Before, First};
-ghost use Rattle.ix_examples.specs.SmallGrammars.{only_a, two_ways, cycle, sums};
-ghost use Rattle.ix_examples.specs.SmallTrees.{node_of, a_tree, left_sum, right_sum, pair, chosen, halves, two_items, separated};
+ghost use Rattle.ix_examples.specs.SmallGrammars.{only_a, two_ways, cycle, sums, depths, runs};
+ghost use Rattle.ix_examples.specs.SmallTrees.{node_of, a_tree, left_sum, right_sum, pair, chosen, halves, two_items, separated, deeper, shallower, one_run, two_runs};
 
 /// The lesser height is before the earlier alternative.
 pub fn lesser_height_is_before()
@@ -158,4 +159,18 @@ pub fn first_trees()
 pub fn first_sum()
     ensures right { First sums (codes "1+1+1") right_sum }
     ensures left { ¬ (First sums (codes "1+1+1") left_sum) }
+{}
+
+/// `S: (A; B), D. A: C. C: "a". B: "a". D: E. E: F. F: "b".` on `ab`: a group adds no height, so the earlier alternative wins within the height that `D` has.
+pub fn first_of_depths()
+    ensures deeper { First depths (codes "ab") deeper }
+    ensures shallower { ¬ (First depths (codes "ab") shallower) }
+    ensures ambiguous { Ambiguous depths (codes "ab") }
+{}
+
+/// `S: a+. a: "x"+.` on `xx`: one item is before two.
+pub fn first_of_runs()
+    ensures one { First runs (codes "xx") one_run }
+    ensures two { ¬ (First runs (codes "xx") two_runs) }
+    ensures ambiguous { Ambiguous runs (codes "xx") }
 {}
