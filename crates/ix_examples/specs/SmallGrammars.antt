@@ -36,8 +36,11 @@ quoted text = One (literal text)
 abbrev pub deleted : List ℕ → Factor
 deleted text = Lit (Some Deleted) (Quoted text)
 
+abbrev pub insertion_of : List ℕ → Factor
+insertion_of text = Insert (Quoted text)
+
 abbrev pub inserted : List ℕ → Term
-inserted text = One (Insert (Quoted text))
+inserted text = One (insertion_of text)
 
 abbrev pub call : List ℕ → Term
 call name = One (Call None name)
@@ -74,6 +77,14 @@ empty = grammar (rule (codes "S") (alternative [] ∷ []) ∷ [])
 -- S: t.   for one term t
 abbrev pub of_term : Term → Grammar
 of_term t = grammar (rule (codes "S") (alternative (t ∷ []) ∷ []) ∷ [])
+
+-- S: t, u.   for two terms
+abbrev pub of_terms : Term → Term → Grammar
+of_terms t u = grammar (rule (codes "S") (alternative (t ∷ u ∷ []) ∷ []) ∷ [])
+
+-- (t, u)
+abbrev pub both : Term → Term → Factor
+both t u = Group (alternative (t ∷ u ∷ []) ∷ [])
 
 -- ("a"; "b")
 abbrev pub a_or_b : Factor

@@ -17,6 +17,7 @@ use Rattle.ix_model.specs.Grammars.Names.{HasUniqueNames}
 use Rattle.ix_tree_laws.proofs.Roots.{from_first_rule}
 use Rattle.ix_examples.proofs.Inversions.{one_of_two, of_only_rule, only_rule, quoted_is_text, one_derived, three_derived}
 use Rattle.ix_model.proofs.Forms.{call_is_node}
+use Rattle.ix_worked_examples.proofs.Called.{unique_names}
 use Rattle.ix_examples.proofs.SmallTexts.{first, one_a, either_a, around_or_a, a_derives, earlier_derives, within_derives}
 
 abbrev sum_terms : List Term
@@ -130,7 +131,7 @@ sum_derives s i k j d e hd h he = (
 )
 
 sums_of_one_name : HasUniqueNames sums
-sums_of_one_name r q name h k = only_rule e_rule r name h ∙ sym (only_rule e_rule q name k)
+sums_of_one_name = unique_names sums (refl, tt)
 
 abbrev digit_at : (i : ℕ) → StandsAt (codes "1+1+1") (codes "1") i (i + 1) → IsE (codes "1+1+1") (one_at i) i (i + 1)
 digit_at i h = digit_derives (codes "1+1+1") i h

@@ -1,5 +1,6 @@
 pub mod Called
 pub mod DepthsAndRuns
+pub mod EmptyTexts
 pub mod FirstTexts
 pub mod PlanFacts
 pub mod Rivals

@@ -9,6 +9,7 @@ pub mod conformance;
 pub mod depth;
 pub mod derivations;
 pub mod documents;
+pub mod empties;
 pub mod expansion;
 pub mod order;
 pub mod places;
