@@ -1,5 +1,5 @@
 -- All derivations of `ab` under `depths` and of `xx` under `runs`, and which is first.
-use Rattle.std.proofs.Common.{◌≡◌, ◌≢◌, refl, ap, sym, subst, ◌∙◌, ◌⊎◌, ◌+◌, ◌≤◌, ℕ, List, [], ◌∷◌, None, codes, arith}
+use Rattle.std.proofs.Common.{◌≡◌, refl, ap, sym, subst, ◌⊎◌, ◌+◌, ◌≤◌, ℕ, List, [], ◌∷◌, None, codes, arith}
 use mathlib.Core.Logic.{inl, inr}
 use Rattle.ix_model.specs.declared.grammar.Rule.{Rule}
 use Rattle.ix_model.specs.declared.grammar.Alt.{Alt}
@@ -9,9 +9,9 @@ use Rattle.ix_model.specs.Grammars.Written.{IsNamed, IsAlternative, IsOfRule}
 use Rattle.ix_model.specs.Matching.Terminals.{StandsAt}
 use Rattle.ix_model.specs.Derivations.Trees.{Tree, text, node, group, list, Trees, no_tree, and, Repeated, one, again, again_after}
 use Rattle.ix_model.specs.Derivations.Derives.{Derives, DerivesAll, Repeats, IsDerivation}
-use Rattle.ix_model.specs.Derivations.Order.{Before, First}
+use Rattle.ix_model.specs.Derivations.Order.{First}
 use Rattle.ix_examples.specs.SmallGrammars.{alternative, rule, literal, quoted, call, depths, runs}
-use Rattle.ix_examples.specs.SmallTrees.{node_of, pair, two_items, deeper, shallower, one_run, two_runs}
+use Rattle.ix_examples.specs.SmallTrees.{node_of, pair, deeper, shallower, one_run, two_runs}
 use Rattle.ix_examples.proofs.Inversions.{one_of_two, quoted_is_text, group_derived, plus_derived, one_derived, two_derived, one_alternative}
 use Rattle.ix_worked_examples.proofs.Called.{AreApart, call_of_term}
 use Rattle.ix_worked_examples.proofs.FirstTexts.{first_of_two, not_first_of_two}

@@ -1,13 +1,13 @@
 -- All derivations of small texts from options, repetitions and lists with separators.
-use Rattle.std.proofs.Common.{◌≡◌, ◌≢◌, refl, ap, sym, subst, ◌∙◌, ◌⊎◌, ◌+◌, ◌≤◌, ℕ, zero, suc, List, [], ◌∷◌, Option, None, Some, length, drop, codes, arith}
+use Rattle.std.proofs.Common.{◌≡◌, ◌≢◌, refl, ap, sym, subst, ◌∙◌, ◌⊎◌, ◌+◌, ◌≤◌, ℕ, zero, suc, List, [], ◌∷◌, None, Some, length, codes, arith}
 use mathlib.Core.Logic.{inl, inr}
 use Rattle.ix_model.specs.declared.grammar.Grammar.{Grammar}
 use Rattle.ix_model.specs.declared.grammar.Term.{Term, One, Opt, Star, Plus}
 use Rattle.ix_model.specs.declared.grammar.Factor.{Factor}
 use Rattle.ix_model.specs.Matching.Terminals.{StandsAt}
-use Rattle.ix_model.specs.Derivations.Trees.{Tree, text, insertion, node, group, present, absent, no_item, list, Trees, no_tree, and, Repeated, one, again, again_after, width}
+use Rattle.ix_model.specs.Derivations.Trees.{Tree, text, insertion, node, present, absent, no_item, list, no_tree, and, Repeated, one, again, again_after, width}
 use Rattle.ix_model.specs.Derivations.Derives.{Derives, DerivesAll, Repeats, IsDerivation, Ambiguous}
-use Rattle.ix_model.specs.Derivations.Heights.{height, repeated_height}
+use Rattle.ix_model.specs.Derivations.Heights.{height}
 use Rattle.ix_model.specs.Derivations.Order.{Before, First}
 use Rattle.ix_examples.specs.SmallGrammars.{alternative, literal, quoted, insertion_of, empty, of_term, both, a_or_b, commas}
 use Rattle.ix_examples.specs.SmallTrees.{node_of, chosen, two_items, separated}

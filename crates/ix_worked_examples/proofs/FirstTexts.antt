@@ -1,12 +1,12 @@
 -- The derivations of `1+1+1`, and the first derivations of small texts.
-use Rattle.std.proofs.Common.{◌≡◌, ◌≢◌, refl, ap, sym, subst, ◌∙◌, ◌⊎◌, ◌+◌, ◌≤◌, ℕ, zero, suc, List, [], ◌∷◌, length, codes, arith}
+use Rattle.std.proofs.Common.{◌≡◌, ◌≢◌, refl, ap, sym, subst, ◌⊎◌, ◌+◌, ◌≤◌, ℕ, zero, suc, List, [], ◌∷◌, length, codes, arith}
 use mathlib.Core.Logic.{inl, inr}
 use Rattle.ix_model.specs.declared.grammar.Grammar.{Grammar}
 use Rattle.ix_model.specs.declared.grammar.Rule.{Rule}
 use Rattle.ix_model.specs.declared.grammar.Term.{Term}
 use Rattle.ix_model.specs.Grammars.Written.{IsOfRule}
 use Rattle.ix_model.specs.Matching.Terminals.{StandsAt}
-use Rattle.ix_model.specs.Derivations.Trees.{Tree, text, node, Trees, and}
+use Rattle.ix_model.specs.Derivations.Trees.{Tree, text, node, Trees}
 use Rattle.ix_model.specs.Derivations.Heights.{height}
 use Rattle.ix_model.specs.Derivations.Derives.{Derives, DerivesAll, IsDerivation}
 use Rattle.ix_model.specs.Derivations.Order.{Before, First}
