@@ -10,6 +10,7 @@ pub mod depth;
 pub mod derivations;
 pub mod documents;
 pub mod empties;
+pub mod entered;
 pub mod expansion;
 pub mod order;
 pub mod places;
