@@ -82,6 +82,10 @@ of_term t = grammar (rule (codes "S") (alternative (t ∷ []) ∷ []) ∷ [])
 abbrev pub of_terms : Term → Term → Grammar
 of_terms t u = grammar (rule (codes "S") (alternative (t ∷ u ∷ []) ∷ []) ∷ [])
 
+-- S: T. T: "a", "".
+abbrev pub two_parts : Grammar
+two_parts = grammar (rule (codes "S") (alternative (call (codes "T") ∷ []) ∷ []) ∷ rule (codes "T") (alternative (quoted (codes "a") ∷ quoted [] ∷ []) ∷ []) ∷ [])
+
 -- (t, u)
 abbrev pub both : Term → Term → Factor
 both t u = Group (alternative (t ∷ u ∷ []) ∷ [])

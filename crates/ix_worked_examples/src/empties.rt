@@ -4,7 +4,7 @@ ghost use Rattle.ix_model.specs.declared.grammar.Term.{One, Opt, Star, Plus};
 ghost use Rattle.ix_model.specs.Derivations.Trees.{Tree, text, insertion, node, group, present, absent, no_item, list, no_tree, and, one, again, again_after};
 ghost use Rattle.ix_model.specs.Derivations.Derives.{IsDerivation, Ambiguous};
 ghost use Rattle.ix_model.specs.Derivations.Order.{First};
-ghost use Rattle.ix_examples.specs.SmallGrammars.{literal, quoted, insertion_of, only_a, empty, of_term, of_terms, both, a_or_b, commas, hidden};
+ghost use Rattle.ix_examples.specs.SmallGrammars.{literal, quoted, insertion_of, only_a, empty, of_term, of_terms, two_parts, both, a_or_b, commas, hidden};
 ghost use Rattle.ix_examples.specs.SmallTrees.{node_of, a_tree, pair, chosen, two_items, separated};
 
 /// `S: ""?.`, `S: ""*.` and `S: ""+.` derive the empty text by two trees at least.
@@ -79,6 +79,8 @@ pub fn of_whole_text()
     ensures gap { ¬ (IsDerivation (of_terms (quoted (codes "a")) (quoted (codes "b"))) (codes "axb") (node 0 0 (pair (text 0 1) (text 2 3)))) }
     ensures other_order { ¬ (IsDerivation (of_terms (quoted (codes "a")) (quoted (codes "b"))) (codes "ba") (node 0 0 (pair (text 1 2) (text 0 1)))) }
     ensures tree_missing { ¬ (IsDerivation (of_terms (quoted (codes "a")) (quoted [])) (codes "a") a_tree) }
+    ensures tree_missing_in_node { ¬ (IsDerivation two_parts (codes "a") (node_of 0 0 (node_of 1 0 (text 0 1)))) }
     ensures tree_missing_in_group { ¬ (IsDerivation (of_term (One (both (quoted (codes "a")) (quoted [])))) (codes "a") (node_of 0 0 (chosen 0 0 1))) }
+    ensures both_trees { IsDerivation two_parts (codes "a") (node_of 0 0 (node 1 0 (pair (text 0 1) (text 1 1)))) }
     ensures no_term { ¬ (IsDerivation only_a (codes "a") (node 0 0 (pair (text 0 1) (text 1 1)))) }
 {}

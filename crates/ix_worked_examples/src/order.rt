@@ -146,8 +146,10 @@ pub fn lesser_start_of_the_last_is_before()
     ensures left { ¬ (Before left_sum right_sum 5) }
 {}
 
-/// The only tree is first, the earlier of two is, and a tree is before all that hold it.
+/// The only tree is first, the earlier of two is, and a tree is before all that hold it; what is no derivation is not first.
 pub fn first_trees()
+    ensures no_derivation { (d : Tree) → ¬ (First only_a (codes "b") d) }
+    ensures not_derived { ¬ (First only_a (codes "a") (node_of 0 0 (text 0 0))) }
     ensures only { First only_a (codes "a") a_tree }
     ensures earlier { First two_ways (codes "a") (node_of 0 0 (text 0 1)) }
     ensures later { ¬ (First two_ways (codes "a") (node_of 0 1 (text 0 1))) }
