@@ -125,7 +125,7 @@ pub fn parts_within_parts()
     ensures in_item_before { Before (two_items (halves 0 1 3) (text 3 4)) (two_items (halves 0 2 3) (text 3 4)) 4 }
     ensures in_item_before_separator { Before (separated (halves 0 1 3) (text 3 4) (text 4 5)) (separated (halves 0 2 3) (text 3 4) (text 4 5)) 5 }
     ensures in_separator { Before (separated (text 0 1) (halves 1 2 4) (text 4 5)) (separated (text 0 1) (halves 1 3 4) (text 4 5)) 5 }
-    ensures in_item_behind_separator { Before (separated (text 0 1) (text 1 2) (halves 2 3 5)) (separated (text 0 1) (text 1 2) (halves 2 4 5)) 5 }
+    ensures in_item_behind_separator { Before (separated (text 0 1) (text 1 2) (halves 2 3 6)) (separated (text 0 1) (text 1 2) (halves 2 4 6)) 6 }
 {}
 
 /// No start is less than 0: parts that are wider than what is left before the parts behind them start alike.
