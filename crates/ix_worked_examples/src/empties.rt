@@ -21,7 +21,7 @@ pub fn empty_literals()
     ensures literal { ¬ (Ambiguous (of_term (quoted [])) []) }
 {}
 
-/// Of these the option that is there is first, the star without an item, and the plus with one.
+/// On the empty text the option of the empty literal that is there is first, the star without an item, and the plus with one.
 pub fn first_of_empty_literals()
     ensures option { First (of_term (Opt (literal []))) [] (node_of 0 0 (present (text 0 0))) }
     ensures star { First (of_term (Star (literal []) None)) [] (node_of 0 0 no_item) }
@@ -72,7 +72,7 @@ pub fn by_first_rule()
     ensures not_called { ¬ (IsDerivation hidden (codes "tv") (node 0 0 (pair (text 0 1) (node_of 3 0 (text 1 2))))) }
 {}
 
-/// It derives the whole text, by one tree for each term over adjoining spans.
+/// A derivation has the whole text, by one tree for each term over adjoining spans.
 pub fn of_whole_text()
     ensures not_to_end { ¬ (IsDerivation only_a (codes "ab") a_tree) }
     ensures not_from_start { ¬ (IsDerivation only_a (codes "ba") (node_of 0 0 (text 1 2))) }
