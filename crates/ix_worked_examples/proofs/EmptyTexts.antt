@@ -225,15 +225,15 @@ module _ (s : List ℕ) where
   no_two (again_after ds e d) (p, q, k, l, front, between, last) =
       omega (arith, items_wide ds 0 k front, (comma_is_text e p k l q between).1.0, (a_is_text d l 2 last).1.0)
 
-  two_of_three : (ds : Repeated) → AreItems ds 0 3 → ds ≡ again_after (one (text 0 1)) (text 1 2) (text 2 3)
+  two_of_three : (ds : Repeated) → AreItems ds 0 3 → (ds ≡ again_after (one (text 0 1)) (text 1 2) (text 2 3)) × StandsAt s (codes ",") 1 2
   two_of_three (one d) h = absurd (omega (arith, (a_is_text d 0 3 h).1.0))
   two_of_three (again ds d) h = absurd (cc h.0)
   two_of_three (again_after ds e d) (p, q, k, l, front, between, last) =
       let x = a_is_text d l 3 last in
-      let y = comma_is_text e p k l q between in
       let v : l ≡ 2 = omega (arith, x.1.0) in
-      let w : k ≡ 1 = omega (arith, v, y.1.0) in
-      cc (x.0, y.0, v, w, one_item ds 0 1 refl (subst (λ (n : ℕ). AreItems ds 0 n) w front))
+      let w : k ≡ 1 = omega (arith, v, (comma_is_text e p k l q between).1.0) in
+      let y = comma_is_text e p 1 2 q (subst (λ (n : ℕ). Derives (of_term commas) s e (One p) n 2) w (subst (λ (n : ℕ). Derives (of_term commas) s e (One p) k n) v between)) in
+      (cc (x.0, y.0, v, one_item ds 0 1 refl (subst (λ (n : ℕ). AreItems ds 0 n) w front)), y.1)
 
   -- a derivation is a list of items
   pub items_of : (d : Tree) → IsDerivation (of_term commas) s d → (ds : Repeated) × (d ≡ node_of 0 0 (list ds)) × AreItems ds 0 (length s)
@@ -243,7 +243,10 @@ module _ (s : List ℕ) where
       (y.0, cc (x.1, y.1), y.2)
 
 pub between_two : (d : Tree) → IsDerivation (of_term commas) (codes "a,a") d → d ≡ node_of 0 0 (separated (text 0 1) (text 1 2) (text 2 3))
-between_two d h = let x = items_of (codes "a,a") d h in cc (x.1, two_of_three (codes "a,a") x.0 x.2)
+between_two d h = let x = items_of (codes "a,a") d h in cc (x.1, (two_of_three (codes "a,a") x.0 x.2).0)
+
+pub none_other : (d : Tree) → IsDerivation (of_term commas) (codes "a;a") d → ⊥
+none_other d h = let x = items_of (codes "a;a") d h in omega (arith, ap first (two_of_three (codes "a;a") x.0 x.2).1.2)
 
 pub none_behind : (d : Tree) → IsDerivation (of_term commas) (codes "a,a,") d → ⊥
 none_behind d h =

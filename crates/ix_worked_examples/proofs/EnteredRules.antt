@@ -1,17 +1,17 @@
 -- What is entered, by each rule of it, and what is not.
-use Rattle.std.proofs.Common.{◌≡◌, refl, ap, sym, subst, ◌∙◌, ◌⊎◌, ◌+◌, ◌≤◌, ℕ, zero, suc, List, [], ◌∷◌, Option, None, Some, slice_get, drop, codes, arith}
+use Rattle.std.proofs.Common.{◌≡◌, refl, ap, sym, subst, ◌⊎◌, ◌≤◌, ℕ, zero, suc, List, [], ◌∷◌, Option, None, Some, slice_get, codes, arith}
 use mathlib.Core.Logic.{inl, inr}
 use Rattle.ix_model.specs.declared.grammar.Grammar.{Grammar}
 use Rattle.ix_model.specs.declared.grammar.Rule.{Rule}
 use Rattle.ix_model.specs.declared.grammar.Mark.TheVariants.{Hidden}
 use Rattle.ix_model.specs.declared.grammar.Chars.TheVariants.{Quoted, Code}
-use Rattle.ix_model.specs.declared.grammar.Term.{Term, One, Opt, Star, Plus}
-use Rattle.ix_model.specs.declared.grammar.Factor.{Factor, Lit}
+use Rattle.ix_model.specs.declared.grammar.Term.{Term, One, Opt, Star}
+use Rattle.ix_model.specs.declared.grammar.Factor.{Factor}
 use Rattle.ix_model.specs.Grammars.Written.{IsOfRule, IsAlternative}
 use Rattle.ix_model.specs.Matching.Terminals.{StandsAt, Matches}
 use Rattle.ix_model.specs.Matching.Codes.{characters}
 use Rattle.ix_model.specs.Derivations.Trees.{text}
-use Rattle.ix_model.specs.Derivations.Entered.{IsRepetition, IsDerived, AlternativeEntered, of_first_rule, of_call, of_group, PlaceEntered, first_term, next_term, Entered, at_place, of_option, as_item, as_separator, ItemEntered, first_item, item_behind, SeparatorEntered, separator_behind}
+use Rattle.ix_model.specs.Derivations.Entered.{IsRepetition, IsDerived, AlternativeEntered, of_first_rule, of_call, of_group, first_term, Entered, at_place, of_option, as_item, as_separator, ItemEntered, first_item, item_behind, SeparatorEntered, separator_behind}
 use Rattle.ix_model.specs.Derivations.Offset.{Offset}
 use Rattle.ix_examples.specs.SmallGrammars.{alternative, rule, literal, quoted, deleted, call, marked_call, cycle, marks, same_names, of_term, a_or_b, commas}
 use Rattle.ix_examples.specs.SmallReadings.{two_lines}

@@ -65,6 +65,7 @@ pub fn option_of_one()
 pub fn repetitions_of_one()
     ensures star { IsDerivation (of_term (Star (literal (codes "a")) None)) [] (node_of 0 0 no_item) }
     ensures items { IsDerivation (of_term (Star (literal (codes "a")) None)) (codes "aa") (node_of 0 0 (list (again (one (text 0 1)) (text 1 2)))) }
+    ensures not_without { ¬ (IsDerivation (of_term (Star (literal (codes "a")) None)) (codes "a") (node_of 0 0 no_item)) }
     ensures plus { ¬ (IsDerivation (of_term (Plus (literal (codes "a")) None)) [] (node_of 0 0 no_item)) }
     ensures plus_items { IsDerivation (of_term (Plus (literal (codes "a")) None)) (codes "aa") (node_of 0 0 (list (again (one (text 0 1)) (text 1 2)))) }
 {}

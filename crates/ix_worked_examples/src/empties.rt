@@ -58,6 +58,7 @@ pub fn group_as_separator()
 /// Separators stand between two items, and nowhere else.
 pub fn separators_nowhere_else()
     ensures between { (d : Tree) → IsDerivation (of_term commas) (codes "a,a") d → d ≡ node_of 0 0 (separated (text 0 1) (text 1 2) (text 2 3)) }
+    ensures other { (d : Tree) → ¬ (IsDerivation (of_term commas) (codes "a;a") d) }
     ensures behind { (d : Tree) → ¬ (IsDerivation (of_term commas) (codes "a,a,") d) }
     ensures in_front { (d : Tree) → ¬ (IsDerivation (of_term commas) (codes ",a") d) }
     ensures left_out { (d : Tree) → ¬ (IsDerivation (of_term commas) (codes "aa") d) }
