@@ -35,6 +35,10 @@ of_one_term t s d (a, terms, ds, p, o, all) =
     let h = one_derived (of_term t) s ds t 0 (length s) (subst (λ ts. DerivesAll (of_term t) s ds ts 0 (length s)) (sym x.1) all) in
     (h.0, cc (p, x.0, h.1), h.2)
 
+-- and a tree of that term is a derivation
+pub by_one_term : (t : Term) (s : List ℕ) (d : Tree) → Derives (of_term t) s d t 0 (length s) → IsDerivation (of_term t) s (node_of 0 0 d)
+by_one_term t s d h = (0, t ∷ [], and no_tree d, refl, (_, refl, (_, refl, refl)), (refl, (0, t, refl, refl, h)))
+
 -- `S: "a".` derives one character
 pub one_a : (s : List ℕ) (d : Tree) → IsDerivation only_a s d → (d ≡ node_of 0 0 (text 0 (length s))) × StandsAt s (codes "a") 0 (length s)
 one_a s d h =

@@ -36,8 +36,11 @@ quoted text = One (literal text)
 abbrev pub deleted : List ℕ → Factor
 deleted text = Lit (Some Deleted) (Quoted text)
 
+abbrev pub insertion_of : List ℕ → Factor
+insertion_of text = Insert (Quoted text)
+
 abbrev pub inserted : List ℕ → Term
-inserted text = One (Insert (Quoted text))
+inserted text = One (insertion_of text)
 
 abbrev pub call : List ℕ → Term
 call name = One (Call None name)
@@ -75,6 +78,18 @@ empty = grammar (rule (codes "S") (alternative [] ∷ []) ∷ [])
 abbrev pub of_term : Term → Grammar
 of_term t = grammar (rule (codes "S") (alternative (t ∷ []) ∷ []) ∷ [])
 
+-- S: t, u.   for two terms
+abbrev pub of_terms : Term → Term → Grammar
+of_terms t u = grammar (rule (codes "S") (alternative (t ∷ u ∷ []) ∷ []) ∷ [])
+
+-- S: T. T: "a", "".
+abbrev pub two_parts : Grammar
+two_parts = grammar (rule (codes "S") (alternative (call (codes "T") ∷ []) ∷ []) ∷ rule (codes "T") (alternative (quoted (codes "a") ∷ quoted [] ∷ []) ∷ []) ∷ [])
+
+-- (t, u)
+abbrev pub both : Term → Term → Factor
+both t u = Group (alternative (t ∷ u ∷ []) ∷ [])
+
 -- ("a"; "b")
 abbrev pub a_or_b : Factor
 a_or_b = Group (alternative (quoted (codes "a") ∷ []) ∷ alternative (quoted (codes "b") ∷ []) ∷ [])
@@ -86,6 +101,21 @@ commas = Plus (literal (codes "a")) (Some (literal (codes ",")))
 -- S: (-"a"; "b")?, "c"++-",".
 abbrev pub parts : Grammar
 parts = grammar (rule (codes "S") (alternative (Opt (Group (alternative (One (deleted (codes "a")) ∷ []) ∷ alternative (quoted (codes "b") ∷ []) ∷ [])) ∷ Plus (literal (codes "c")) (Some (deleted (codes ","))) ∷ []) ∷ []) ∷ [])
+
+-- S: (A; B), D. A: C. C: "a". B: "a". D: E. E: F. F: "b".
+abbrev pub depths : Grammar
+depths = grammar (
+    rule (codes "S") (alternative (One (Group (alternative (call (codes "A") ∷ []) ∷ alternative (call (codes "B") ∷ []) ∷ [])) ∷ call (codes "D") ∷ []) ∷ [])
+    ∷ rule (codes "A") (alternative (call (codes "C") ∷ []) ∷ [])
+    ∷ rule (codes "C") (alternative (quoted (codes "a") ∷ []) ∷ [])
+    ∷ rule (codes "B") (alternative (quoted (codes "a") ∷ []) ∷ [])
+    ∷ rule (codes "D") (alternative (call (codes "E") ∷ []) ∷ [])
+    ∷ rule (codes "E") (alternative (call (codes "F") ∷ []) ∷ [])
+    ∷ rule (codes "F") (alternative (quoted (codes "b") ∷ []) ∷ []) ∷ [])
+
+-- S: a+. a: "x"+.
+abbrev pub runs : Grammar
+runs = grammar (rule (codes "S") (alternative (Plus (Call None (codes "a")) None ∷ []) ∷ []) ∷ rule (codes "a") (alternative (Plus (literal (codes "x")) None ∷ []) ∷ []) ∷ [])
 
 -- S: "t", -h. h: -g. g: @a. a: "v".
 abbrev pub hidden : Grammar

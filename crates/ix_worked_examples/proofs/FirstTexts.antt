@@ -1,11 +1,12 @@
 -- The derivations of `1+1+1`, and the first derivations of small texts.
-use Rattle.std.proofs.Common.{◌≡◌, ◌≢◌, refl, ap, sym, subst, ◌∙◌, ◌⊎◌, ◌+◌, ◌≤◌, ℕ, zero, suc, List, [], ◌∷◌, codes, arith}
+use Rattle.std.proofs.Common.{◌≡◌, ◌≢◌, refl, ap, sym, subst, ◌⊎◌, ◌+◌, ◌≤◌, ℕ, zero, suc, List, [], ◌∷◌, length, codes, arith}
 use mathlib.Core.Logic.{inl, inr}
+use Rattle.ix_model.specs.declared.grammar.Grammar.{Grammar}
 use Rattle.ix_model.specs.declared.grammar.Rule.{Rule}
 use Rattle.ix_model.specs.declared.grammar.Term.{Term}
 use Rattle.ix_model.specs.Grammars.Written.{IsOfRule}
 use Rattle.ix_model.specs.Matching.Terminals.{StandsAt}
-use Rattle.ix_model.specs.Derivations.Trees.{Tree, text, node, Trees, and}
+use Rattle.ix_model.specs.Derivations.Trees.{Tree, text, node, Trees}
 use Rattle.ix_model.specs.Derivations.Heights.{height}
 use Rattle.ix_model.specs.Derivations.Derives.{Derives, DerivesAll, IsDerivation}
 use Rattle.ix_model.specs.Derivations.Order.{Before, First}
@@ -16,6 +17,7 @@ use Rattle.ix_model.specs.Grammars.Names.{HasUniqueNames}
 use Rattle.ix_tree_laws.proofs.Roots.{from_first_rule}
 use Rattle.ix_examples.proofs.Inversions.{one_of_two, of_only_rule, only_rule, quoted_is_text, one_derived, three_derived}
 use Rattle.ix_model.proofs.Forms.{call_is_node}
+use Rattle.ix_worked_examples.proofs.Called.{unique_names}
 use Rattle.ix_examples.proofs.SmallTexts.{first, one_a, either_a, around_or_a, a_derives, earlier_derives, within_derives}
 
 abbrev sum_terms : List Term
@@ -129,7 +131,7 @@ sum_derives s i k j d e hd h he = (
 )
 
 sums_of_one_name : HasUniqueNames sums
-sums_of_one_name r q name h k = only_rule e_rule r name h ∙ sym (only_rule e_rule q name k)
+sums_of_one_name = unique_names sums (refl, tt)
 
 abbrev digit_at : (i : ℕ) → StandsAt (codes "1+1+1") (codes "1") i (i + 1) → IsE (codes "1+1+1") (one_at i) i (i + 1)
 digit_at i h = digit_derives (codes "1+1+1") i h
@@ -148,21 +150,27 @@ right_derives =
 
 -- ---- first derivations
 
+module _ (g : Grammar) (s : List ℕ) (d e : Tree) where
+  -- of two derivations the one that is before the other is first
+  pub first_of_two : IsDerivation g s d → ((t : Tree) → IsDerivation g s t → (t ≡ d) ⊎ (t ≡ e)) → Before d e (length s) → First g s d
+  first_of_two h all b = (h, λ t k n. by_tree t n (all t k))
+    where
+      by_tree : (t : Tree) → t ≢ d → (t ≡ d) ⊎ (t ≡ e) → Before d t (length s)
+      by_tree t n (inl p) = absurd (n p)
+      by_tree t n (inr p) = subst (λ x. Before d x (length s)) (sym p) b
+
+  -- what is not before some other derivation is not first
+  pub not_first_of_two : IsDerivation g s d → d ≢ e → ¬ (Before e d (length s)) → ¬ (First g s e)
+  not_first_of_two h n b f = b (f.1 d h n)
+
 pub a_is_first : First only_a (codes "a") a_tree
 a_is_first = (a_derives, λ e h n. absurd (n (one_a (codes "a") e h).0))
 
 pub earlier_is_first : First two_ways (codes "a") (node_of 0 0 (text 0 1))
-earlier_is_first = (earlier_derives, λ e h n. by_tree e n (either_a (codes "a") e h).0)
-  where
-    by_tree : (e : Tree) → e ≢ node_of 0 0 (text 0 1) → (e ≡ node_of 0 0 (text 0 1)) ⊎ (e ≡ node_of 0 1 (text 0 1)) → Before (node_of 0 0 (text 0 1)) e 1
-    by_tree e n (inl p) = absurd (n p)
-    by_tree e n (inr p) = subst (λ t. Before (node_of 0 0 (text 0 1)) t 1) (sym p) (inr (refl, inl (omega arith)))
+earlier_is_first = first_of_two two_ways (codes "a") (node_of 0 0 (text 0 1)) (node_of 0 1 (text 0 1)) earlier_derives (λ t h. (either_a (codes "a") t h).0) (inr (refl, inl (omega arith)))
 
 pub later_is_not_first : First two_ways (codes "a") (node_of 0 1 (text 0 1)) → ⊥
-later_is_not_first h = before_is_absurd (h.1 (node_of 0 0 (text 0 1)) earlier_derives (λ e. cc e))
-  where
-    before_is_absurd : Before (node_of 0 1 (text 0 1)) (node_of 0 0 (text 0 1)) 1 → ⊥
-    before_is_absurd b = grind (arith, b)
+later_is_not_first = not_first_of_two two_ways (codes "a") (node_of 0 0 (text 0 1)) (node_of 0 1 (text 0 1)) earlier_derives (λ e. cc e) (λ b. grind (arith, b))
 
 pub within_is_first : First cycle (codes "a") (node_of 0 1 (text 0 1))
 within_is_first = (within_derives, λ e h n. by_tree e n (around_or_a (codes "a") e h))
@@ -189,14 +197,10 @@ around_is_not_first d h = by_tree (around_or_a (codes "a") (node_of 0 0 d) h.0)
     by_tree (inr p) = cc p
 
 pub right_is_first : First sums (codes "1+1+1") right_sum
-right_is_first = (right_derives, λ e h n. by_tree e n (left_or_right e h))
+right_is_first = first_of_two sums (codes "1+1+1") right_sum left_sum right_derives right_or_left (inr (refl, inr (refl, inl (omega arith))))
   where
-    by_tree : (e : Tree) → e ≢ right_sum → (e ≡ left_sum) ⊎ (e ≡ right_sum) → Before right_sum e 5
-    by_tree e n (inl p) = subst (λ t. Before right_sum t 5) (sym p) (inr (refl, inr (refl, inl (omega arith))))
-    by_tree e n (inr p) = absurd (n p)
+    right_or_left : (t : Tree) → IsDerivation sums (codes "1+1+1") t → (t ≡ right_sum) ⊎ (t ≡ left_sum)
+    right_or_left t h = grind (arith, left_or_right t h)
 
 pub left_is_not_first : First sums (codes "1+1+1") left_sum → ⊥
-left_is_not_first h = before_is_absurd (h.1 right_sum right_derives (λ e. cc e))
-  where
-    before_is_absurd : Before left_sum right_sum 5 → ⊥
-    before_is_absurd b = grind (arith, b)
+left_is_not_first = not_first_of_two sums (codes "1+1+1") right_sum left_sum right_derives (λ e. cc e) (λ b. grind (arith, b))

@@ -1,3 +1,7 @@
+pub mod Called
+pub mod DepthsAndRuns
+pub mod EmptyTexts
+pub mod EnteredRules
 pub mod FirstTexts
 pub mod PlanFacts
 pub mod Rivals

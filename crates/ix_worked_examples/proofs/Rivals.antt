@@ -14,15 +14,16 @@ use Rattle.ix_examples.specs.SmallTrees.{node_of}
 use Rattle.ix_worked_examples.specs.Rivals.{a_rule, rivals, by_rule}
 use Rattle.ix_tree_laws.specs.Choice.{FirstExists}
 use Rattle.ix_tree_laws.proofs.Once.{first_is_one}
-use Rattle.ix_examples.proofs.Inversions.{one_alternative, only_rule, quoted_is_text, one_derived}
+use Rattle.ix_examples.proofs.Inversions.{one_alternative, quoted_is_text, one_derived}
 use Rattle.ix_model.proofs.Forms.{call_is_node}
 use Rattle.ix_examples.proofs.SmallTexts.{first, around, within_derives}
+use Rattle.ix_worked_examples.proofs.Called.{unique_names}
 use Rattle.ix_worked_examples.proofs.FirstTexts.{within_is_first}
 
 -- ---- S: S; "a".
 
 pub cycle_is_unique : HasUniqueNames cycle
-cycle_is_unique r q name h k = only_rule _ r name h ∙ sym (only_rule _ q name k)
+cycle_is_unique = unique_names cycle (refl, tt)
 
 -- each derivation stands in a higher one
 pub as_high : (n : ℕ) → (d : Tree) × IsDerivation cycle (codes "a") d × (n ≤ height d)

@@ -29,7 +29,7 @@ literal_form : (t : Term) (cs : List ℕ) → IsLiteral t cs → term_form (out-
 literal_form t cs (mark, chars, e, f) = one_form t _ 0 e (ap factor_form (out_lit mark chars))
 
 -- a literal stands where it matches
-literal_stands : (s : List ℕ) (t : Term) (cs : List ℕ) (i j : ℕ) → IsLiteral t cs → Matches s t i j → StandsAt s cs i j
+pub literal_stands : (s : List ℕ) (t : Term) (cs : List ℕ) (i j : ℕ) → IsLiteral t cs → Matches s t i j → StandsAt s cs i j
 literal_stands s t cs i j (mark, chars, e, f) (inl (tmark, others, x, h)) =
     let same : One (Lit tmark others) ≡ One (Lit mark chars) = sym x ∙ e in
     let held : others ≡ chars = cc same in
@@ -136,14 +136,14 @@ none_of_ab = (inr refl, λ j r. absurd (not_there j (reached_from_front (codes "
 pub one_of_ab : Offset only_a (codes "ab") 1
 one_of_ab = (inl (quoted (codes "a"), 0, front_entered (codes "a") (codes "ab"), inl (_, _, refl, (refl, omega arith, refl))), λ j r. omega (arith, (reached_from_front (codes "a") (codes "ab") j r).0))
 
-abbrev lines : List Term
+abbrev pub lines : List Term
 lines = quoted (codes "a") ∷ One (Lit None (Code (codes "a"))) ∷ quoted (codes "b") ∷ []
 
 abbrev pub lines_text : List ℕ
 lines_text = codes "a\nc"
 
 -- each literal of `lines` has one character
-line_literals : (n : ℕ) (t : Term) → slice_get lines n ≡ Some t → (c : ℕ) × IsLiteral t (c ∷ [])
+pub line_literals : (n : ℕ) (t : Term) → slice_get lines n ≡ Some t → (c : ℕ) × IsLiteral t (c ∷ [])
 line_literals zero t x = (97, (None, Quoted (codes "a"), sym {b = t} (cc x), refl))
 line_literals (suc zero) t x = (10, (None, Code (codes "a"), sym {b = t} (cc x), refl))
 line_literals (suc (suc zero)) t x = (98, (None, Quoted (codes "b"), sym {b = t} (cc x), refl))

@@ -19,6 +19,7 @@ pub fn first_of_infinitely_many()
 
 /// Where two rules have one name, a text may have derivations and no first one.
 pub fn names_have_to_be_unique()
+    ensures same_name { ¬ (HasUniqueNames rivals) }
     ensures one { IsDerivation rivals (codes "a") (by_rule 1) }
     ensures other { IsDerivation rivals (codes "a") (by_rule 2) }
     ensures no_first { (d : Tree) → ¬ (First rivals (codes "a") d) }

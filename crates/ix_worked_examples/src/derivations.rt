@@ -1,11 +1,11 @@
 ghost use Rattle.std.specs.Prelude.{◌≡◌, ◌⊎◌, [], ◌∷◌, None, Some, codes};
 ghost use Rattle.ix_model.specs.declared.grammar.Mark.{Mark};
 ghost use Rattle.ix_model.specs.declared.grammar.Term.{One, Opt, Star, Plus};
-ghost use Rattle.ix_model.specs.Derivations.Trees.{Tree, text, insertion, node, group, present, absent, no_item, list, no_tree, and, one, again, again_after, width};
+ghost use Rattle.ix_model.specs.Derivations.Trees.{Tree, text, insertion, node, group, present, absent, no_item, list, no_tree, and, one, again, again_after, tree_count, width};
 ghost use Rattle.ix_model.specs.Derivations.Heights.{height};
 ghost use Rattle.ix_model.specs.Derivations.Derives.{Derives, IsDerivation, Ambiguous};
 ghost use Rattle.ix_examples.specs.SmallGrammars.{literal, quoted, only_a, two_ways, cycle, sums, empty, of_term, a_or_b, commas, parts, hidden, nested, marks, marked_root, escaped};
-ghost use Rattle.ix_examples.specs.SmallTrees.{node_of, a_tree, left_sum, right_sum, parts_tree, hidden_tree, nested_tree, marks_tree, marked_root_tree, escaped_tree};
+ghost use Rattle.ix_examples.specs.SmallTrees.{node_of, pair, two_items, separated, a_tree, left_sum, right_sum, parts_tree, hidden_tree, nested_tree, marks_tree, marked_root_tree, escaped_tree};
 
 /// `S: "a".` derives `a` by one tree, and `b` by none.
 pub fn one_literal()
@@ -65,6 +65,7 @@ pub fn option_of_one()
 pub fn repetitions_of_one()
     ensures star { IsDerivation (of_term (Star (literal (codes "a")) None)) [] (node_of 0 0 no_item) }
     ensures items { IsDerivation (of_term (Star (literal (codes "a")) None)) (codes "aa") (node_of 0 0 (list (again (one (text 0 1)) (text 1 2)))) }
+    ensures not_without { ¬ (IsDerivation (of_term (Star (literal (codes "a")) None)) (codes "a") (node_of 0 0 no_item)) }
     ensures plus { ¬ (IsDerivation (of_term (Plus (literal (codes "a")) None)) [] (node_of 0 0 no_item)) }
     ensures plus_items { IsDerivation (of_term (Plus (literal (codes "a")) None)) (codes "aa") (node_of 0 0 (list (again (one (text 0 1)) (text 1 2)))) }
 {}
@@ -86,19 +87,54 @@ pub fn documented_trees()
     ensures escaped { IsDerivation escaped (codes "a") escaped_tree }
 {}
 
-/// A node adds one to the height, a group, an option and a repetition nothing.
+/// A node adds one to the greatest height within it.
 pub fn heights_of_nodes()
+    ensures text { height (text 0 1) ≡ 0 }
+    ensures insertion { height insertion ≡ 0 }
+    ensures no_tree { height (node 0 0 no_tree) ≡ 1 }
     ensures node { height a_tree ≡ 1 }
     ensures around { height (node_of 0 0 a_tree) ≡ 2 }
-    ensures greatest { height right_sum ≡ 3 }
+    ensures greatest_is_last { height right_sum ≡ 3 }
+    ensures greatest_is_first { height left_sum ≡ 3 }
+{}
+
+/// A group, an option and a repetition add nothing to it.
+pub fn heights_within()
     ensures group { height (group 0 (and no_tree (text 0 1))) ≡ 0 }
+    ensures group_of_nodes { height (group 0 (pair a_tree (node_of 0 0 a_tree))) ≡ 2 }
+    ensures present { height (present a_tree) ≡ 1 }
+    ensures absent { height absent ≡ 0 }
+    ensures no_item { height no_item ≡ 0 }
+    ensures one { height (list (one a_tree)) ≡ 1 }
+    ensures first_item { height (two_items a_tree (text 1 2)) ≡ 1 }
+    ensures last_item { height (two_items (text 0 1) a_tree) ≡ 1 }
+    ensures higher_item { height (two_items a_tree (node_of 0 0 a_tree)) ≡ 2 }
+    ensures first_of_separated { height (separated a_tree (text 1 2) (text 2 3)) ≡ 1 }
+    ensures separator { height (separated (text 0 1) a_tree (text 2 3)) ≡ 1 }
+    ensures last_of_separated { height (separated (text 0 1) (text 1 2) a_tree) ≡ 1 }
     ensures within { height (present (list (one a_tree))) ≡ 1 }
 {}
 
 /// A tree is as wide as the texts within it.
 pub fn widths_of_texts()
+    ensures text { width (text 2 5) ≡ 3 }
+    ensures insertion { width insertion ≡ 0 }
+    ensures no_tree { width (node 0 0 no_tree) ≡ 0 }
+    ensures node { width (node 0 0 (pair (text 0 1) (text 1 3))) ≡ 3 }
+    ensures group { width (group 0 (pair (text 0 1) (text 1 3))) ≡ 3 }
+    ensures present { width (present (text 0 2)) ≡ 2 }
+    ensures absent { width absent ≡ 0 }
+    ensures no_item { width no_item ≡ 0 }
+    ensures one { width (list (one (text 0 2))) ≡ 2 }
+    ensures items { width (two_items (text 0 1) (text 1 3)) ≡ 3 }
+    ensures separated { width (separated (text 0 1) (text 1 3) (text 3 7)) ≡ 7 }
     ensures sum { width right_sum ≡ 5 }
-    ensures insertion { width escaped_tree ≡ 1 }
-    ensures separators { width parts_tree ≡ 4 }
-    ensures none { width absent ≡ 0 }
+    ensures around_text { width escaped_tree ≡ 1 }
+    ensures parts { width parts_tree ≡ 4 }
+{}
+
+/// Trees are counted one by one, whatever is within them.
+pub fn counted_trees()
+    ensures none { tree_count no_tree ≡ 0 }
+    ensures two { tree_count (pair right_sum absent) ≡ 2 }
 {}

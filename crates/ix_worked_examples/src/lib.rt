@@ -9,6 +9,8 @@ pub mod conformance;
 pub mod depth;
 pub mod derivations;
 pub mod documents;
+pub mod empties;
+pub mod entered;
 pub mod expansion;
 pub mod order;
 pub mod places;
