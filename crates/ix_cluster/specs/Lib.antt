@@ -1,3 +1,4 @@
+pub mod BankSteps
 pub mod Banks
 pub mod ClosedFacts
 pub mod Consistent
@@ -14,4 +15,5 @@ pub mod LogPlaces
 pub mod Room
 pub mod Seen
 pub mod Sound
+pub mod StepAnswers
 pub mod Steps

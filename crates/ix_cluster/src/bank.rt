@@ -7,6 +7,7 @@ ghost use Rattle.ix_model.specs.Expansion.Numbered.{lines_at};
 ghost use Rattle.ix_model.specs.Expansion.Parts.{Parts};
 ghost use Rattle.ix_model.specs.Expansion.Slots.{sym_after};
 ghost use Rattle.ix_cluster.specs.declared.fact.Fact.TheVariants as fact;
+ghost use Rattle.ix_cluster.specs.BankSteps.{BankStep, AddEdge, AddEnd, Arrive, MakeClaim, Opens, Meets, Arrives, Belongs};
 ghost use Rattle.ix_cluster.specs.Facts.{same_fact, has, put};
 ghost use Rattle.ix_cluster.specs.Firsts.{firsts_of};
 ghost use Rattle.ix_cluster.specs.ClosedFacts.{IsInClosed};
@@ -199,6 +200,8 @@ impl Bank {
     /// Claims the descriptor, and says whose it is: `Unknown` exactly where the bank has no such descriptor, `Taken`
     /// exactly where it was claimed before.
     pub fn claim(&mut self, slot: u32, left: u32, pos: u32) -> Claimed
+        // It is one step of the bank, which needs no plan.
+        ensures step { (plan : Parts) → BankStep plan self.old.log (MakeClaim slot left pos) (Belongs result) self.new.log }
         ensures answer { result ≡ claim_answer self.old.log slot left pos }
         ensures log { self.new.log ≡ after_claim self.old.log slot left pos }
         ensures handed { self.new.handed ≡ self.old.handed }
@@ -211,6 +214,8 @@ impl Bank {
     ///
     /// An error is want of memory, and the bank is as before.
     pub fn arrive(&mut self, sub: Sub) -> Result<Arrived, AllocError>
+        // It is one step of the bank, which needs no plan.
+        ensures step { (plan : Parts) → IfOk result (λ answer. BankStep plan self.old.log (Arrive sub) (Arrives answer) self.new.log) }
         ensures answer { IfOk result (λ answer. answer ≡ arrival_answer self.old.log sub) }
         ensures log { OnOk result (self.new.log ≡ after_arrival self.old.log sub) }
         ensures handed { self.new.handed ≡ self.old.handed }
@@ -237,6 +242,8 @@ impl Bank {
         at: u32,
         end: u32,
     ) -> Result<SmallVec<Edge, 4, Global>, AllocError>
+        // It is one step of the bank, which needs no plan.
+        ensures step { (plan : Parts) → IfOk result (λ edges. BankStep plan self.old.log (AddEnd rule at end) (Meets edges.items) self.new.log) }
         ensures answer { IfOk result (λ edges. edges.items ≡ end_answer self.old.log rule at end) }
         ensures log { OnOk result (self.new.log ≡ put self.old.log (fact.End rule at end)) }
         ensures handed { IfOk result (λ edges. self.new.handed ≡ self.old.handed + length edges.items) }
@@ -275,6 +282,8 @@ impl Bank {
         requires slot { slot < length plan.now.slots }
         // The symbol after the slot's dot is this rule.
         requires symbol { (mark : Option Mark) × (sym_after plan.now slot ≡ Some (sym.Rule rule mark)) }
+        // It is one step of the bank.
+        ensures step { IfOk result (λ opened. BankStep plan.now self.old.log (AddEdge rule at slot left) (Opens opened.first opened.ends.items) self.new.log) }
         ensures first { IfOk result (λ opened. opened.first ≡ edge_is_first self.old.log rule at slot left) }
         ensures ends { IfOk result (λ opened. opened.ends.items ≡ edge_answer self.old.log rule at slot left) }
         ensures log { OnOk result (self.new.log ≡ after_edge plan.now self.old.log rule at slot left) }

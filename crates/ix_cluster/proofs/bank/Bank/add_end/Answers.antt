@@ -1,6 +1,7 @@
 use Rattle.std.proofs.Common.{arith, ◌≡◌, ◌∙◌, ◌+◌, ◌<◌, ◌^◌, List, [], length, cond, true, false, sym, ap, subst, rules}
 use Rattle.ix_cluster.specs.declared.fact.Fact.{Fact}
 use Rattle.ix_cluster.specs.declared.fact.Fact.TheVariants.{End}
+use Rattle.ix_cluster.specs.BankSteps.{AddEnd, Meets}
 use Rattle.ix_cluster.specs.Facts.{has, put}
 use Rattle.ix_cluster.specs.Lists.{cluster}
 use Rattle.ix_cluster.specs.Sound.{IsSound}
@@ -9,7 +10,11 @@ use Rattle.ix_cluster.proofs.Consistency.{consistent-ends_kept, consistent-end}
 use Rattle.ix_cluster.proofs.Counts.{put-old, was-there, was-new}
 use Rattle.ix_cluster.proofs.Handing.{handed-small}
 use Rattle.ix_cluster.proofs.Soundness.{sound-end}
+use Rattle.ix_cluster.proofs.StepCases.{step_from}
 use Rattle.ix_cluster.proofs.bank.Bank.add_end.Goals as goal
+
+pub returns-then-not-add-clause-step : goal.returns-then-not-add-clause-step
+returns-then-not-add-clause-step c plan = step_from plan _ (AddEnd c.args.rule c.args.at c.args.end) (Meets c.in_ok-edges.edges.items) c.add.new.self.facts (ap Meets (search rules)) (search rules)
 
 pub returns-then-not-add-clause-sound : goal.returns-then-not-add-clause-sound
 returns-then-not-add-clause-sound c plan count m sound closed here =
@@ -38,6 +43,9 @@ pub overflow_add-self : goal.overflow_add-self
 overflow_add-self c =
     let small : length c.self.inside.log.facts < 2 ^ 57 = omega (arith, c.in_ok-reserve.ensures.small, ap length c.in_ok-reserve.ensures.facts) in
     omega (arith, handed-small c.self.inside.log.facts small, c.self.invariant.kept.counted, c.len.type_inv)
+
+pub returns-clause-step : goal.returns-clause-step
+returns-clause-step c plan = step_from plan _ (AddEnd c.args.rule c.args.at c.args.end) (Meets c.extend_from_slice.new.self.items) c.add.new.self.facts (ap Meets (search rules)) (search rules)
 
 pub returns-clause-sound : goal.returns-clause-sound
 returns-clause-sound c plan count m sound closed here =
