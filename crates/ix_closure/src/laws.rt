@@ -4,16 +4,18 @@ ghost use Rattle.ix_examples.specs.SmallPlans.{cycle, insertion, nothing, only_a
 ghost use Rattle.ix_cluster.specs.declared.answers.Arrived.TheVariants.{Fresh, Known};
 ghost use Rattle.ix_cluster.specs.declared.answers.Claimed.TheVariants.{Mine, Taken, Unknown};
 ghost use Rattle.ix_cluster.specs.declared.fact.Fact.TheVariants as fact;
+ghost use Rattle.ix_cluster.specs.BankSteps as call;
 ghost use Rattle.ix_closure.specs.declared.owed.Owed.TheVariants.{Claim, Edge, End, Arrive};
 ghost use Rattle.ix_closure.specs.Balance.{IsBalanced};
 ghost use Rattle.ix_closure.specs.Closure.{IsClosure};
 ghost use Rattle.ix_closure.specs.Due.{IsRecorded, IsDue, FollowsIn, IsMissing};
-ghost use Rattle.ix_closure.specs.Events.{log_after, handed_by, bank_after, home_for, Event};
+ghost use Rattle.ix_closure.specs.Events.{call_of, log_after, handed_by, bank_after, home_for, Event};
 ghost use Rattle.ix_closure.specs.Examples.{alone, a_called, alternatives_claimed, IsUntidy, cycle_begun, cycle_called, cycle_claimed, nothing_begun, nothing_called, nothing_claimed, nothing_closed, nothing_ended, two_banks};
 ghost use Rattle.ix_closure.specs.Follows.{fact_of, sub_of, arrival, claims_at, claim_for, claims_for, FollowsDesc, FollowsClaim, opened, met_ends, met_edges, claim_of, Follows};
-ghost use Rattle.ix_closure.specs.Laws.{FollowsOnce, FollowsThere, EventOnce, HasMemory, EventThere, RunOnce, DueIsClosed, EventKeepsBalance, ClosureOnce};
+ghost use Rattle.ix_closure.specs.LastRuns.{LastRun, IsReachedByLast};
+ghost use Rattle.ix_closure.specs.Laws.{FollowsOnce, FollowsThere, EventOnce, EventIsBankStep, HasMemory, EventThere, RunOnce, LastRunIsRun, DueIsClosed, EventKeepsBalance, RunKeepsBalance, ClosureOnce};
 ghost use Rattle.ix_closure.specs.Orders.{EveryOrder};
-ghost use Rattle.ix_closure.specs.Quantity.{same_step, times, gives, givers, step_bound};
+ghost use Rattle.ix_closure.specs.Quantity.{same_step, times, gives, givers, is_claim, weight, step_bound};
 ghost use Rattle.ix_closure.specs.Ready.{HasFurther, HasSlot, IsReady, IsReplaced};
 ghost use Rattle.ix_closure.specs.Runs.{Run, IsReached, IsQuiet};
 ghost use Rattle.ix_closure.specs.Tidy.{IsEmptyOfCalled, IsOwedOnce, IsTidy};
@@ -136,6 +138,20 @@ pub fn step_brings_one_list()
 
 // ---- a step on its bank
 
+/// Each step is done by the call of its own kind, with its own numbers.
+pub fn steps_have_calls()
+    ensures claim { call_of (Claim 2 0 1) ≡ call.MakeClaim 2 0 1 }
+    ensures edge { call_of (Edge 1 3 2 0) ≡ call.AddEdge 1 3 2 0 }
+    ensures end { call_of (End 1 3 4) ≡ call.AddEnd 1 3 4 }
+    ensures subtree { call_of (Arrive (sub_of 1 0 0 1)) ≡ call.Arrive (sub_of 1 0 0 1) }
+    ensures other_end { call_of (End 1 3 4) ≢ call.AddEnd 1 4 3 }
+{}
+
+/// An event does one step of the bank.
+pub fn event_is_a_step_of_its_bank()
+    ensures { EventIsBankStep }
+{}
+
 /// The log of its bank has the step's fact behind the others, and what comes with it.
 pub fn step_is_recorded()
     ensures claim { log_after (cycle []) cycle_called (Claim 2 0 0) ≡ fact.Called 0 0 ∷ fact.Desc 0 0 0 ∷ fact.Desc 2 0 0 ∷ fact.Claim 2 0 0 ∷ [] }
@@ -241,6 +257,23 @@ pub fn choices_lead_to_one_state()
     ensures { RunOnce }
 {}
 
+/// Each choice is of the last step that is then owed.
+pub fn last_steps_lead_to_states()
+    ensures both { LastRun (nothing []) nothing_begun (0 ∷ 0 ∷ []) nothing_ended }
+    ensures none { LastRun (nothing []) nothing_begun [] nothing_begun }
+    ensures second { LastRun (cycle []) cycle_begun (1 ∷ []) (alone (cycle_called ++ fact.Claim 2 0 0 ∷ []) 0 (Claim 0 0 0 ∷ [])) }
+    // Of two the first is not the last.
+    ensures first { ¬ (LastRun (cycle []) cycle_begun (0 ∷ []) (cycle_claimed (Claim 2 0 0 ∷ Edge 0 0 0 0 ∷ []))) }
+    ensures too_few { ¬ (LastRun (nothing []) nothing_begun (0 ∷ []) nothing_ended) }
+    ensures reached { IsReachedByLast (nothing []) nothing_begun nothing_ended }
+    ensures back { ¬ (IsReachedByLast (nothing []) nothing_ended nothing_begun) }
+{}
+
+/// Steps of which each is the last that is owed are steps in some order.
+pub fn last_steps_are_steps()
+    ensures { LastRunIsRun }
+{}
+
 // ---- steps that follow, and states that owe them
 
 /// A fact is recorded where one of the banks has it.
@@ -303,9 +336,10 @@ pub fn balanced_state_forgets_nothing()
     ensures end_still { IsBalanced (nothing []) (alone nothing_closed 0 (End 0 0 0 ∷ [])) }
 {}
 
-/// A step of a balanced state leads to a balanced state.
+/// A step of a balanced state leads to a balanced state, and so does each list of choices.
 pub fn events_keep_balance()
-    ensures { EventKeepsBalance }
+    ensures one { EventKeepsBalance }
+    ensures all { RunKeepsBalance }
 {}
 
 // ---- the closure
@@ -361,6 +395,17 @@ pub fn alternatives_give_one_end()
     ensures two { givers (two_alternatives (codes "a")) (fact.Claim 0 0 0 ∷ fact.Claim 1 0 1 ∷ fact.Claim 3 0 1 ∷ []) 0 0 1 ≡ 2 }
     ensures one { givers (two_alternatives (codes "a")) (fact.Claim 0 0 0 ∷ fact.Claim 1 0 1 ∷ fact.Desc 3 0 1 ∷ []) 0 0 1 ≡ 1 }
     ensures none { givers (two_alternatives (codes "a")) (fact.Claim 0 0 0 ∷ fact.Claim 1 0 1 ∷ fact.Claim 3 0 1 ∷ []) 0 0 0 ≡ 0 }
+{}
+
+/// A descriptor brings its claim, a claim one more step, and each pair of an edge and an end an arrival.
+pub fn facts_have_weight()
+    ensures claim { is_claim (fact.Claim 0 0 0) ≡ true }
+    ensures no_claim { is_claim (fact.Desc 0 0 0) ≡ false }
+    ensures called { weight nothing_called ≡ 1 }
+    ensures closed { weight nothing_closed ≡ 2 }
+    ensures pair { weight (fact.Edge 0 0 0 0 ∷ fact.Desc 3 0 1 ∷ fact.Claim 3 0 1 ∷ fact.End 0 0 1 ∷ []) ≡ 3 }
+    ensures no_pair { weight (fact.Edge 0 0 0 0 ∷ fact.End 0 1 1 ∷ []) ≡ 0 }
+    ensures not_twice { weight (fact.Desc 0 0 0 ∷ []) ≢ 2 }
 {}
 
 /// A descriptor brings its claim and one more step, and each pair of an edge and an end an arrival.

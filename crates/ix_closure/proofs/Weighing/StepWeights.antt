@@ -26,7 +26,7 @@ use Rattle.ix_closure.proofs.Due.DescriptorSteps.{follows_few}
 use Rattle.ix_closure.proofs.Due.FirstSlots.{firsts_once}
 use Rattle.ix_closure.proofs.Weighing.LogCounts.{count_put, count_put_new, count_call}
 use Rattle.ix_closure.proofs.Lists.OnceEach.{IsOnceEach}
-use Rattle.ix_closure.proofs.Weighing.Weights.{is_claim, weight}
+use Rattle.ix_closure.specs.Quantity.{is_claim, weight}
 
 -- ---- a call
 
