@@ -11,7 +11,7 @@ ghost use Rattle.ix_cluster.specs.Steps.{after_arrival, arrival_answer};
 ghost use Rattle.ix_closure.specs.declared.owed.Owed.{Owed as Step};
 ghost use Rattle.ix_closure.specs.declared.owed.Owed.TheVariants as step;
 ghost use Rattle.ix_closure.specs.Events.{bank_after, home_for};
-ghost use Rattle.ix_closure.specs.Follows.{FollowsDesc, FollowsClaim, claim_of, met_edges, met_ends, opened};
+ghost use Rattle.ix_closure.specs.Follows.{FollowsDesc, FollowsClaim, fresh_claim, met_edges, met_ends, opened};
 ghost use Rattle.ix_closure.specs.Ready.{HasSlot, HasFurther, IsReady, IsReplaced};
 
 use crate::follow::{push_edges, push_ends, push_opened};
@@ -87,8 +87,8 @@ fn claimed_step(plan: &Plan, claimed: Claimed, slot: u32, left: u32, pos: u32) -
 }
 
 // The claim of a subtree's descriptor, where it was new.
-fn claim_of(arrived: Arrived, sub: Sub) -> Option<Owed>
-    ensures { cons_option result [] ≡ claim_of arrived sub }
+fn fresh_claim(arrived: Arrived, sub: Sub) -> Option<Owed>
+    ensures { cons_option result [] ≡ fresh_claim arrived sub }
 {
     match arrived {
         Arrived::Fresh => Some(Owed::Claim {
@@ -133,12 +133,12 @@ fn do_claim(
 fn do_arrive(bank: &mut Bank, owed: &mut Vec<Owed>, n: usize, sub: Sub) -> Result<(), AllocError>
     requires n { n < length owed.old.items }
     ensures bank { OnOk result (bank.new ≡ record { log = after_arrival bank.old.log sub; handed = bank.old.handed }) }
-    ensures owed { OnOk result (owed.new.items ≡ remove owed.old.items n ++ claim_of (arrival_answer bank.old.log sub) sub) }
+    ensures owed { OnOk result (owed.new.items ≡ remove owed.old.items n ++ fresh_claim (arrival_answer bank.old.log sub) sub) }
     ensures err_bank { OnErr result (bank.new ≡ bank.old) }
     ensures err_owed { OnErr result (owed.new.items ≡ owed.old.items) }
 {
     let arrived = bank.arrive(sub)?;
-    replace(owed, n, claim_of(arrived, sub));
+    replace(owed, n, fresh_claim(arrived, sub));
     Ok(())
 }
 

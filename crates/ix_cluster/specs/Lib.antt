@@ -5,7 +5,6 @@ pub mod Consistent
 pub mod Examples
 pub mod Facts
 pub mod Firsts
-pub mod Furthest
 pub mod Handed
 pub mod Homes
 pub mod Laws

@@ -14,7 +14,7 @@ ghost use Rattle.ix_cluster.specs.ClosedFacts.{IsInClosed};
 ghost use Rattle.ix_cluster.specs.Homes.{home, home_of};
 ghost use Rattle.ix_cluster.specs.Lists.{cluster};
 ghost use Rattle.ix_cluster.specs.LogPlaces.{is_no_claim};
-ghost use Rattle.ix_cluster.specs.Sound.{IsSound};
+ghost use Rattle.ix_cluster.specs.Sound.{IsSoundBank};
 ghost use Rattle.ix_cluster.specs.Room.{unclaimed_in};
 ghost use Rattle.ix_cluster.specs.Steps.{after_call, after_first, after_firsts, claim_answer, after_claim, arrival_answer, after_arrival, end_answer, edges_in, ends_in, edge_is_first, edge_answer, after_edge};
 
@@ -126,7 +126,7 @@ impl Bank {
     pub(crate) fn begin(alloc: Global, plan: &Plan) -> Result<Bank, AllocError>
         ensures log { IfOk result (λ bank. bank.log ≡ after_call plan.now [] 0 0) }
         ensures handed { IfOk result (λ bank. bank.handed ≡ 0) }
-        ensures sound { (count m : ℕ) → home 0 0 count ≡ m → IfOk result (λ bank. IsSound plan.now count m bank) }
+        ensures sound { (count m : ℕ) → home 0 0 count ≡ m → IfOk result (λ bank. IsSoundBank plan.now count m bank) }
     {
         // What holds of each plan: it has a first rule.
         let _ = plan.slot_count();
@@ -205,7 +205,7 @@ impl Bank {
         ensures answer { result ≡ claim_answer self.old.log slot left pos }
         ensures log { self.new.log ≡ after_claim self.old.log slot left pos }
         ensures handed { self.new.handed ≡ self.old.handed }
-        ensures sound { (plan : Parts) (count m : ℕ) → IsSound plan count m self.old → IsSound plan count m self.new }
+        ensures sound { (plan : Parts) (count m : ℕ) → IsSoundBank plan count m self.old → IsSoundBank plan count m self.new }
     {
         self.log.claim(slot, left, pos)
     }
@@ -221,7 +221,7 @@ impl Bank {
         ensures handed { self.new.handed ≡ self.old.handed }
         ensures err { OnErr result (self.new ≡ self.old) }
         // What is recorded is a fact of the closure, and this bank is its home.
-        ensures sound { (plan : Parts) (count m : ℕ) → IsSound plan count m self.old → IsInClosed plan (fact.Part sub) → home_of plan count (fact.Part sub) ≡ m → IsSound plan count m self.new }
+        ensures sound { (plan : Parts) (count m : ℕ) → IsSoundBank plan count m self.old → IsInClosed plan (fact.Part sub) → home_of plan count (fact.Part sub) ≡ m → IsSoundBank plan count m self.new }
     {
         self.log.reserve(4)?;
         self.log.add(Fact::Part(sub));
@@ -249,7 +249,7 @@ impl Bank {
         ensures handed { IfOk result (λ edges. self.new.handed ≡ self.old.handed + length edges.items) }
         ensures err { OnErr result (self.new ≡ self.old) }
         // What is recorded is a fact of the closure, and this bank is its home.
-        ensures sound { (plan : Parts) (count m : ℕ) → IsSound plan count m self.old → IsInClosed plan (fact.End rule at end) → home_of plan count (fact.End rule at end) ≡ m → IsSound plan count m self.new }
+        ensures sound { (plan : Parts) (count m : ℕ) → IsSoundBank plan count m self.old → IsInClosed plan (fact.End rule at end) → home_of plan count (fact.End rule at end) ≡ m → IsSoundBank plan count m self.new }
     {
         let cluster = Cluster { rule, at };
         // First everything that can fail: room for the fact, for the answer and for the end.
@@ -290,7 +290,7 @@ impl Bank {
         ensures handed { IfOk result (λ opened. self.new.handed ≡ self.old.handed + length opened.ends.items) }
         ensures err { OnErr result (self.new ≡ self.old) }
         // What is recorded is a fact of the closure, and this bank is its home.
-        ensures sound { (count m : ℕ) → IsSound plan.now count m self.old → IsInClosed plan.now (fact.Edge rule at slot left) → home_of plan.now count (fact.Edge rule at slot left) ≡ m → IsSound plan.now count m self.new }
+        ensures sound { (count m : ℕ) → IsSoundBank plan.now count m self.old → IsInClosed plan.now (fact.Edge rule at slot left) → home_of plan.now count (fact.Edge rule at slot left) ≡ m → IsSoundBank plan.now count m self.new }
     {
         // What holds of each plan: the rule that a symbol names is there.
         let _ = plan.slot_count();

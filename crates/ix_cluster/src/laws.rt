@@ -6,22 +6,21 @@ ghost use Rattle.ix_cluster.specs.declared.answers.Arrived.TheVariants as arrive
 ghost use Rattle.ix_cluster.specs.declared.answers.Claimed.TheVariants as claimed;
 ghost use Rattle.ix_cluster.specs.declared.fact.Fact.TheVariants.{Called, Edge, End, Desc, Part, Claim};
 ghost use Rattle.ix_cluster.specs.BankSteps.{BankStep, AddEdge, AddEnd, Arrive, MakeClaim, Opens, Meets, Arrives, Belongs};
-ghost use Rattle.ix_cluster.specs.Banks.{opening, opening_bank, facts_of, later_of, is_descriptor, sub_of};
+ghost use Rattle.ix_cluster.specs.Banks.{opening, opening_bank, facts_of, later_of, is_descriptor, recorded_sub};
 ghost use Rattle.ix_cluster.specs.ClosedFacts.{IsInClosed};
 ghost use Rattle.ix_cluster.specs.Consistent.{EdgesAreCalled, IsConsistent};
 ghost use Rattle.ix_cluster.specs.declared.log.Place.TheVariants.{Came, Claimed};
 ghost use Rattle.ix_cluster.specs.Examples.{two_ends, three_ends, one_edge, no_ends, empty_lists, full_ends};
 ghost use Rattle.ix_cluster.specs.Facts.{has, put, same_fact};
 ghost use Rattle.ix_cluster.specs.Firsts.{first_slot, firsts_of, is_at_end};
-ghost use Rattle.ix_cluster.specs.Furthest.{IsFurthest};
 ghost use Rattle.ix_cluster.specs.Handed.{meets, pair_count, IsKept};
 ghost use Rattle.ix_cluster.specs.Homes.{home, home_of};
 ghost use Rattle.ix_cluster.specs.Laws.{AreClustersOf, edges_times_ends, PairsAreByCluster, IsLaterOf, LaterIsGreatest};
 ghost use Rattle.ix_cluster.specs.Listed.{AreListed};
 ghost use Rattle.ix_cluster.specs.Lists.{cluster, same_cluster, list_at, PushesAt, KeepsLists, IsPlaceFor};
-ghost use Rattle.ix_cluster.specs.LogPlaces.{is_no_claim, claim_of, number_of, fact_at, log_of, AreMarked, IsLog};
+ghost use Rattle.ix_cluster.specs.LogPlaces.{is_no_claim, as_claim, number_of, fact_at, log_of, AreMarked, IsLog};
 ghost use Rattle.ix_cluster.specs.Room.{is_unclaimed, unclaimed_in, HasRoom};
-ghost use Rattle.ix_cluster.specs.Sound.{AreTrue, HasCompanions, IsSound, AreSound};
+ghost use Rattle.ix_cluster.specs.Sound.{AreTrue, HasCompanions, IsSoundBank, AreSound};
 ghost use Rattle.ix_cluster.specs.StepAnswers.{answer_to, after_step, StepIsOne, StepAppends, ClaimIsMark};
 ghost use Rattle.ix_cluster.specs.Steps.{empty_sub, claim_answer, after_claim, arrival_answer, after_arrival, edges_in, ends_in, end_answer, after_call, after_edge, edge_is_first, edge_answer};
 
@@ -242,8 +241,8 @@ pub fn descriptor_waits_for_its_claim()
 pub fn claims_are_marks()
     ensures plain { is_no_claim (Desc 0 0 0) ≡ true }
     ensures claim { is_no_claim (Claim 0 0 0) ≡ false }
-    ensures of { claim_of (Desc 1 0 2) ≡ Claim 1 0 2 }
-    ensures other { claim_of (Called 0 0) ≡ Called 0 0 }
+    ensures of { as_claim (Desc 1 0 2) ≡ Claim 1 0 2 }
+    ensures other { as_claim (Called 0 0) ≡ Called 0 0 }
     ensures number { number_of (Claimed 3) ≡ 3 }
     ensures came { fact_at (Called 0 0 ∷ Desc 0 0 0 ∷ []) (Came 1) ≡ Desc 0 0 0 }
     ensures claimed { fact_at (Called 0 0 ∷ Desc 0 0 0 ∷ []) (Claimed 1) ≡ Claim 0 0 0 }
@@ -270,7 +269,7 @@ pub fn banks_are_read_in_order()
     ensures facts { facts_of (record { log = Desc 1 0 3 ∷ []; handed = 0 } ∷ record { log = Part (empty_sub 0 1) ∷ Desc 0 1 1 ∷ []; handed = 0 } ∷ []) ≡ Desc 1 0 3 ∷ Part (empty_sub 0 1) ∷ Desc 0 1 1 ∷ [] }
     ensures furthest { fold later_of 0 (Desc 1 0 3 ∷ Claim 1 0 4 ∷ Desc 0 1 1 ∷ []) ≡ 3 }
     ensures descriptors { count_by is_descriptor (Desc 1 0 3 ∷ Claim 1 0 3 ∷ Desc 0 1 1 ∷ []) ≡ 2 }
-    ensures subtrees { filter_map sub_of (Desc 1 0 3 ∷ Part (empty_sub 0 1) ∷ []) ≡ empty_sub 0 1 ∷ [] }
+    ensures subtrees { filter_map recorded_sub (Desc 1 0 3 ∷ Part (empty_sub 0 1) ∷ []) ≡ empty_sub 0 1 ∷ [] }
 {}
 
 /// The later of a position and those of some facts is the greatest of that position and the descriptors'.
@@ -280,10 +279,10 @@ pub fn later_is_greatest()
 
 /// Claims and subtrees do not count for the furthest position; without a descriptor it is 0.
 pub fn furthest_is_a_descriptors()
-    ensures furthest { IsFurthest (Desc 1 0 3 ∷ Claim 1 0 4 ∷ Desc 0 1 1 ∷ []) 3 }
-    ensures none { IsFurthest (Called 0 2 ∷ []) 0 }
-    ensures too_small { ¬ (IsFurthest (Desc 1 0 3 ∷ Desc 0 1 1 ∷ []) 1) }
-    ensures too_great { ¬ (IsFurthest (Desc 1 0 3 ∷ []) 4) }
+    ensures furthest { IsLaterOf 0 (Desc 1 0 3 ∷ Claim 1 0 4 ∷ Desc 0 1 1 ∷ []) 3 }
+    ensures none { IsLaterOf 0 (Called 0 2 ∷ []) 0 }
+    ensures too_small { ¬ (IsLaterOf 0 (Desc 1 0 3 ∷ Desc 0 1 1 ∷ []) 1) }
+    ensures too_great { ¬ (IsLaterOf 0 (Desc 1 0 3 ∷ []) 4) }
     ensures later { IsLaterOf 2 (Desc 0 1 1 ∷ []) 2 }
     ensures not_later { ¬ (IsLaterOf 2 (Desc 0 1 1 ∷ []) 1) }
 {}
@@ -306,9 +305,9 @@ pub fn facts_come_in_order()
 
 /// The banks of a plan begin sound. A bank without the call of the first rule is not sound where it is its home.
 pub fn banks_begin_sound()
-    ensures one { IsSound (cycle []) 1 0 (opening_bank (cycle []) 1 0) }
+    ensures one { IsSoundBank (cycle []) 1 0 (opening_bank (cycle []) 1 0) }
     ensures all { AreSound (cycle []) (opening (cycle []) 1) }
-    ensures empty { ¬ (IsSound (cycle []) 1 0 (record { log = []; handed = 0 })) }
-    ensures away { ¬ (IsSound (cycle []) 2 1 (opening_bank (cycle []) 2 0)) }
+    ensures empty { ¬ (IsSoundBank (cycle []) 1 0 (record { log = []; handed = 0 })) }
+    ensures away { ¬ (IsSoundBank (cycle []) 2 1 (opening_bank (cycle []) 2 0)) }
     ensures none { ¬ (AreSound (cycle []) []) }
 {}

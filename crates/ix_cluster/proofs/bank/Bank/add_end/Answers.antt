@@ -4,7 +4,7 @@ use Rattle.ix_cluster.specs.declared.fact.Fact.TheVariants.{End}
 use Rattle.ix_cluster.specs.BankSteps.{AddEnd, Meets}
 use Rattle.ix_cluster.specs.Facts.{has, put}
 use Rattle.ix_cluster.specs.Lists.{cluster}
-use Rattle.ix_cluster.specs.Sound.{IsSound}
+use Rattle.ix_cluster.specs.Sound.{IsSoundBank}
 use Rattle.ix_cluster.specs.Steps.{edges_in}
 use Rattle.ix_cluster.proofs.Consistency.{consistent-ends_kept, consistent-end}
 use Rattle.ix_cluster.proofs.Counts.{put-old, was-there, was-new}
@@ -20,7 +20,7 @@ pub returns-then-not-add-clause-sound : goal.returns-then-not-add-clause-sound
 returns-then-not-add-clause-sound c plan count m sound closed here =
     let there : has c.self.inside.log.facts (End c.args.rule c.args.at c.args.end) ≡ true = was-there c.self.inside.log.facts c.reserve.new.self.facts (End c.args.rule c.args.at c.args.end) c.add.result c.reserve.ensures.facts c.add.ensures.added c.if-not-add.true in
     let same : c.add.new.self.facts ≡ c.self.inside.log.facts = c.add.ensures.facts ∙ ap (λ l. put l (End c.args.rule c.args.at c.args.end)) c.reserve.ensures.facts ∙ put-old c.self.inside.log.facts (End c.args.rule c.args.at c.args.end) there in
-    subst (λ (facts : List Fact). IsSound plan count m (record { log = facts; handed = c.self.inside.handed })) (sym same) (subst (IsSound plan count m) (sym c.self.view_is) sound)
+    subst (λ (facts : List Fact). IsSoundBank plan count m (record { log = facts; handed = c.self.inside.handed })) (sym same) (subst (IsSoundBank plan count m) (sym c.self.view_is) sound)
 
 pub invariant_of-self-in_err-place : goal.invariant_of-self-in_err-place
 invariant_of-self-in_err-place c =
@@ -53,4 +53,4 @@ returns-clause-sound c plan count m sound closed here =
     let met : c.extend_from_slice.new.self.items ≡ edges_in c.self.inside.log.facts (cluster c.args.rule c.args.at) = search rules in
     sound-end plan count m (record { log = c.self.inside.log.facts; handed = c.self.inside.handed }) (record { log = c.add.new.self.facts; handed = c.self.inside.handed + c.len.result }) c.args.rule c.args.at c.args.end c.extend_from_slice.new.self.items (search rules)
     (met ∙ sym (ap (λ b. cond b [] (edges_in c.self.inside.log.facts (cluster c.args.rule c.args.at))) none)) (ap (λ n. c.self.inside.handed + n) c.len.ensures.value) c.add.ensures.bounded here closed
-    (subst (IsSound plan count m) (sym c.self.view_is) sound)
+    (subst (IsSoundBank plan count m) (sym c.self.view_is) sound)

@@ -9,7 +9,7 @@ use Rattle.ix_cluster.proofs.CalledEdges.{called-arrive}
 use Rattle.ix_cluster.proofs.Handing.{handed-arrive}
 use Rattle.ix_cluster.proofs.Listing.{AreListed-arrive}
 use Rattle.ix_cluster.specs.Seen.{Bank}
-use Rattle.ix_cluster.specs.Sound.{IsSound}
+use Rattle.ix_cluster.specs.Sound.{IsSoundBank}
 use Rattle.ix_cluster.proofs.Soundness.{sound-arrival}
 use Rattle.ix_cluster.proofs.StepCases.{arrival_told, step_from}
 use Rattle.ix_cluster.proofs.bank.Bank.arrive.Goals as goal
@@ -43,4 +43,4 @@ returns-clause-step c plan =
 pub returns-clause-sound : goal.returns-clause-sound
 returns-clause-sound c plan count m sound closed here =
     sound-arrival plan count m (record { log = c.self.inside.log.facts; handed = c.self.inside.handed }) (record { log = c.add_descriptor.new.self.facts; handed = c.self.inside.handed }) c.args.sub (search rules) refl c.add_descriptor.ensures.bounded here closed
-    (subst (IsSound plan count m) (sym c.self.view_is) sound)
+    (subst (IsSoundBank plan count m) (sym c.self.view_is) sound)
