@@ -1,6 +1,7 @@
 -- Quiet states have exactly the closure.
 pub mod EveryOrder
 pub mod Finishing
+pub mod LastSteps
 pub mod OneClosure
 pub mod QuietClosure
 pub mod QuietRuns

@@ -2,23 +2,28 @@
 use Rattle.std.specs.Prelude.{◌≡◌, ℕ, ◌+◌, ◌<◌, ◌^◌, List, ◌++◌, length, remove, Some, slice_get, slice_set}
 use Rattle.ix_model.specs.Expansion.Parts.{Parts}
 use Rattle.ix_cluster.specs.declared.fact.Fact.{Fact}
-use Rattle.ix_cluster.specs.declared.fact.Fact.TheVariants as fact
-use Rattle.ix_cluster.specs.Facts.{put}
+use Rattle.ix_cluster.specs.BankSteps.{Call, AddEdge, AddEnd, MakeClaim}
+use Rattle.ix_cluster.specs.BankSteps as call
 use Rattle.ix_cluster.specs.Homes.{home_of}
 use Rattle.ix_cluster.specs.Room.{unclaimed_in}
 use Rattle.ix_cluster.specs.Seen.{Bank}
-use Rattle.ix_cluster.specs.Steps.{after_claim, after_arrival, after_edge, edge_answer, end_answer}
+use Rattle.ix_cluster.specs.StepAnswers.{after_step}
+use Rattle.ix_cluster.specs.Steps.{edge_answer, end_answer}
 use Rattle.ix_closure.specs.declared.owed.Owed.{Owed}
 use Rattle.ix_closure.specs.declared.owed.Owed.TheVariants.{Claim, Edge, End, Arrive}
 use Rattle.ix_closure.specs.Follows.{fact_of, Follows}
 use Rattle.ix_closure.specs.Seen.{State}
 
+-- the call that does the step
+abbrev pub call_of : Owed → Call
+call_of (Claim s l p) = MakeClaim s l p
+call_of (Edge r k s l) = AddEdge r k s l
+call_of (End r k e) = AddEnd r k e
+call_of (Arrive sub) = call.Arrive sub
+
 -- the log of the step's bank after the step
 abbrev pub log_after : Parts → List Fact → Owed → List Fact
-log_after plan log (Claim s l p) = after_claim log s l p
-log_after plan log (Edge r k s l) = after_edge plan log r k s l
-log_after plan log (End r k e) = put log (fact.End r k e)
-log_after plan log (Arrive sub) = after_arrival log sub
+log_after plan log step = after_step plan log (call_of step)
 
 -- how many pairs of an edge and an end the step hands out
 abbrev pub handed_by : List Fact → Owed → ℕ

@@ -1,12 +1,12 @@
 -- Small states of the core, of which the worked examples speak.
 use Rattle.std.specs.Prelude.{ℕ, List, [], ◌∷◌, ◌++◌}
+use Rattle.ix_model.specs.Closure.Useful.{sub_at}
 use Rattle.ix_model.specs.Expansion.Parts.{Parts}
 use Rattle.ix_cluster.specs.declared.fact.Fact.{Fact}
 use Rattle.ix_cluster.specs.declared.fact.Fact.TheVariants as fact
 use Rattle.ix_closure.specs.declared.owed.Owed.{Owed}
 use Rattle.ix_closure.specs.declared.owed.Owed.TheVariants.{Claim, End}
 use Rattle.ix_closure.specs.Balance.{IsBalanced}
-use Rattle.ix_closure.specs.Follows.{sub_of}
 use Rattle.ix_closure.specs.Seen.{State}
 use Rattle.ix_closure.specs.Tidy.{IsTidy}
 
@@ -26,7 +26,7 @@ IsUntidy plan state = IsBalanced plan state × ¬ (IsTidy plan state)
 
 -- the first call, with its alternative and the empty subtree
 abbrev pub nothing_called : List Fact
-nothing_called = fact.Called 0 0 ∷ fact.Desc 0 0 0 ∷ fact.Part (sub_of 0 0 0 0) ∷ []
+nothing_called = fact.Called 0 0 ∷ fact.Desc 0 0 0 ∷ fact.Part (sub_at 0 0 0 0) ∷ []
 
 -- the whole closure
 abbrev pub nothing_closed : List Fact
@@ -68,6 +68,6 @@ a_called = fact.Called 0 0 ∷ fact.Desc 0 0 0 ∷ []
 abbrev pub alternatives_claimed : State
 alternatives_claimed =
     alone (
-    fact.Called 0 0 ∷ fact.Desc 0 0 0 ∷ fact.Desc 2 0 0 ∷ fact.Claim 0 0 0 ∷ fact.Claim 2 0 0 ∷ fact.Part (sub_of 1 0 0 1) ∷ fact.Desc 1 0 1 ∷
-    fact.Part (sub_of 3 0 0 1) ∷ fact.Desc 3 0 1 ∷ fact.Claim 1 0 1 ∷ fact.Claim 3 0 1 ∷ []
+    fact.Called 0 0 ∷ fact.Desc 0 0 0 ∷ fact.Desc 2 0 0 ∷ fact.Claim 0 0 0 ∷ fact.Claim 2 0 0 ∷ fact.Part (sub_at 1 0 0 1) ∷ fact.Desc 1 0 1 ∷
+    fact.Part (sub_at 3 0 0 1) ∷ fact.Desc 3 0 1 ∷ fact.Claim 1 0 1 ∷ fact.Claim 3 0 1 ∷ []
     ) 0 (End 0 0 1 ∷ End 0 0 1 ∷ [])

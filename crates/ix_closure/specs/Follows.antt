@@ -5,6 +5,7 @@ use Rattle.ix_model.specs.declared.grammar.Mark.{Mark}
 use Rattle.ix_model.specs.declared.rules.Sym.{Sym}
 use Rattle.ix_model.specs.declared.rules.Sym.TheVariants as sym
 use Rattle.ix_model.specs.declared.sub.Sub.{Sub}
+use Rattle.ix_model.specs.Closure.Useful.{sub_at}
 use Rattle.ix_model.specs.Expansion.Parts.{Parts}
 use Rattle.ix_model.specs.Expansion.FlatDerives.{IsTerminal}
 use Rattle.ix_model.specs.Expansion.SlotPlaces.{HasNext, IsLast}
@@ -27,14 +28,10 @@ fact_of (Edge r k s l) = fact.Edge r k s l
 fact_of (End r k e) = fact.End r k e
 fact_of (Arrive sub) = fact.Part sub
 
--- the subtree of the slot from l to e with the pivot k
-abbrev pub sub_of : ℕ → ℕ → ℕ → ℕ → Sub
-sub_of s l k e = record { slot = s; left = l; pivot = k; right = e }
-
 -- the rule that an edge's slot waits for goes from k to e, so the slot with its dot behind the rule, which has the next
 -- number, arrives at e
 abbrev pub arrival : ℕ → ℕ → Arc → Owed
-arrival k e edge = Arrive (sub_of (edge.slot + 1) edge.left k e)
+arrival k e edge = Arrive (sub_at (edge.slot + 1) edge.left k e)
 
 -- a claim for each of the first slots at k
 abbrev pub claims_at : ℕ → List ℕ → List Owed
@@ -53,11 +50,11 @@ module _ (plan : Parts) (s l p : ℕ) where
   -- what a descriptor brings that was claimed now
   pub data FollowsDesc : List Owed → Type 0 where
     -- a terminal stands there: the slot behind it arrives where it ends
-    passes : (x : Sym) (after e : ℕ) → HasNext plan s after x → IsTerminal plan x p e → FollowsDesc (Arrive (sub_of after l p e) ∷ [])
+    passes : (x : Sym) (after e : ℕ) → HasNext plan s after x → IsTerminal plan x p e → FollowsDesc (Arrive (sub_at after l p e) ∷ [])
     -- a terminal does not stand there
     stops : (t : ℕ) (shown : Bool) (after : ℕ) → HasNext plan s after (sym.Term t shown) → ((e : ℕ) → ¬ (IsTerminal plan (sym.Term t shown) p e)) → FollowsDesc []
     -- an insertion takes no character
-    inserts : (n after : ℕ) → HasNext plan s after (sym.Insert n) → FollowsDesc (Arrive (sub_of after l p p) ∷ [])
+    inserts : (n after : ℕ) → HasNext plan s after (sym.Insert n) → FollowsDesc (Arrive (sub_at after l p p) ∷ [])
     -- a rule is called at p
     calls : (r after : ℕ) (mark : Option Mark) → HasNext plan s after (sym.Rule r mark) → FollowsDesc (Edge r p s l ∷ [])
     -- the dot at the end ends the slot's rule
@@ -82,13 +79,13 @@ abbrev pub met_edges : List Fact → ℕ → ℕ → ℕ → List Owed
 met_edges log r k e = map (arrival k e) (end_answer log r k e)
 
 -- the claim of a subtree's descriptor, where it was new
-abbrev pub claim_of : Arrived → Sub → List Owed
-claim_of Fresh sub = Claim sub.slot sub.left sub.right ∷ []
-claim_of Known sub = []
+abbrev pub fresh_claim : Arrived → Sub → List Owed
+fresh_claim Fresh sub = Claim sub.slot sub.left sub.right ∷ []
+fresh_claim Known sub = []
 
 -- the steps that a step brings, by the log that it met, in the order in which they are appended
 abbrev pub Follows : Parts → List Fact → Owed → List Owed → Type 0
 Follows plan log (Claim s l p) more = FollowsClaim plan (claim_answer log s l p) s l p more
 Follows plan log (Edge r k s l) more = more ≡ opened plan log r k s l ++ met_ends log r k s l
 Follows plan log (End r k e) more = more ≡ met_edges log r k e
-Follows plan log (Arrive sub) more = more ≡ claim_of (arrival_answer log sub) sub
+Follows plan log (Arrive sub) more = more ≡ fresh_claim (arrival_answer log sub) sub

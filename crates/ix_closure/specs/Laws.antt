@@ -4,6 +4,8 @@ use Rattle.std.specs.Prelude.{◌≡◌, ℕ, ◌+◌, ◌<◌, ◌^◌, ◌↔�
 use Rattle.ix_model.specs.Expansion.Parts.{Parts}
 use Rattle.ix_model.specs.Expansion.Planned.{IsPlanned}
 use Rattle.ix_cluster.specs.declared.fact.Fact.{Fact}
+use Rattle.ix_cluster.specs.BankSteps.{BankStep}
+use Rattle.ix_cluster.specs.StepAnswers.{answer_to}
 use Rattle.ix_cluster.specs.ClosedFacts.{IsInClosed}
 use Rattle.ix_cluster.specs.Room.{unclaimed_in}
 use Rattle.ix_cluster.specs.Seen.{Bank}
@@ -11,8 +13,9 @@ use Rattle.ix_closure.specs.declared.owed.Owed.{Owed}
 use Rattle.ix_closure.specs.Balance.{IsBalanced}
 use Rattle.ix_closure.specs.Closure.{IsClosure}
 use Rattle.ix_closure.specs.Due.{IsDue}
-use Rattle.ix_closure.specs.Events.{Event, home_for, log_after}
+use Rattle.ix_closure.specs.Events.{Event, call_of, home_for, log_after}
 use Rattle.ix_closure.specs.Follows.{fact_of, Follows}
+use Rattle.ix_closure.specs.LastRuns.{LastRun}
 use Rattle.ix_closure.specs.Ready.{HasSlot}
 use Rattle.ix_closure.specs.Runs.{Run}
 use Rattle.ix_closure.specs.Seen.{State}
@@ -28,6 +31,10 @@ FollowsThere = (plan : Parts) → IsPlanned plan → (log : List Fact) (step : O
 -- an owed step has no two outcomes
 abbrev pub EventOnce : Type 0
 EventOnce = (plan : Parts) → IsPlanned plan → (old : State) (n : ℕ) (a b : State) → Event plan old n a → Event plan old n b → a ≡ b
+
+-- a step is one step of its bank, whatever the call answers
+abbrev pub EventIsBankStep : Type 0
+EventIsBankStep = (plan : Parts) (old : State) (n : ℕ) (new : State) → (event : Event plan old n new) → BankStep plan event.bank.log (call_of event.step) (answer_to event.bank.log (call_of event.step)) (log_after plan event.bank.log event.step)
 
 -- a machine can have memory for the bank that does the step, with what it records
 abbrev pub HasMemory : Parts → List Bank → Owed → Type 0
@@ -49,6 +56,14 @@ DueIsClosed = (plan : Parts) (facts : List Fact) → ((f : Fact) → Contains fa
 -- a step of a balanced state leads to a balanced state
 abbrev pub EventKeepsBalance : Type 0
 EventKeepsBalance = (plan : Parts) → IsPlanned plan → (old : State) (n : ℕ) (new : State) → IsBalanced plan old → Event plan old n new → IsBalanced plan new
+
+-- steps from a balanced state lead to balanced states alone
+abbrev pub RunKeepsBalance : Type 0
+RunKeepsBalance = (plan : Parts) → IsPlanned plan → (first : State) (choices : List ℕ) (last : State) → IsBalanced plan first → Run plan first choices last → IsBalanced plan last
+
+-- steps of which each is the last that is owed are steps in some order
+abbrev pub LastRunIsRun : Type 0
+LastRunIsRun = (plan : Parts) (first : State) (choices : List ℕ) (last : State) → LastRun plan first choices last → Run plan first choices last
 
 -- lists of the closure have the same facts, and as many
 abbrev pub ClosureOnce : Type 0

@@ -4,6 +4,7 @@ pub mod Due
 pub mod Events
 pub mod Examples
 pub mod Follows
+pub mod LastRuns
 pub mod Laws
 pub mod Orders
 pub mod Quantity

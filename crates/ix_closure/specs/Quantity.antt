@@ -1,5 +1,5 @@
 -- How often steps are owed, and how many steps facts can bring. It is this project's own.
-use Rattle.std.specs.Prelude.{ℕ, ◌+◌, ◌*◌, Bool, false, ◌&&◌, ◌==◌, List}
+use Rattle.std.specs.Prelude.{ℕ, ◌+◌, ◌*◌, Bool, false, not, ◌&&◌, ◌==◌, List}
 use Rattle.std.specs.List.{count_by}
 use Rattle.ix_model.specs.Expansion.Parts.{Parts}
 use Rattle.ix_model.specs.Expansion.Slots.{info_at}
@@ -9,6 +9,7 @@ use Rattle.ix_cluster.specs.Banks.{is_descriptor}
 use Rattle.ix_cluster.specs.Facts.{same_fact}
 use Rattle.ix_cluster.specs.Firsts.{is_at_end}
 use Rattle.ix_cluster.specs.Handed.{pair_count}
+use Rattle.ix_cluster.specs.LogPlaces.{is_no_claim}
 use Rattle.ix_closure.specs.declared.owed.Owed.{Owed}
 use Rattle.ix_closure.specs.Follows.{fact_of}
 
@@ -28,6 +29,15 @@ gives plan r k e _ = false
 -- how many claimed descriptors give the cluster of r at k the end e
 abbrev pub givers : Parts → List Fact → ℕ → ℕ → ℕ → ℕ
 givers plan facts r k e = count_by (gives plan r k e) facts
+
+-- whether the fact is a claim
+abbrev pub is_claim : Fact → Bool
+is_claim f = not (is_no_claim f)
+
+-- how many steps recorded facts bring: each descriptor its claim, each claim one step, and each edge and end of one cluster
+-- an arrival
+abbrev pub weight : List Fact → ℕ
+weight facts = count_by is_descriptor facts + count_by is_claim facts + pair_count facts
 
 -- twice the descriptors, and the pairs of an edge and an end of one cluster
 abbrev pub step_bound : List Fact → ℕ

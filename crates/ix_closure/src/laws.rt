@@ -1,19 +1,22 @@
 //! Worked examples and laws of the definitions. Each function's contract is the example or the law; the bodies are empty.
 ghost use Rattle.std.specs.Prelude.{◌≡◌, ◌≢◌, [], ◌∷◌, ◌++◌, ◌^◌, true, false, codes, replicate, None, Some, Contains};
+ghost use Rattle.ix_model.specs.Closure.Useful.{sub_at};
 ghost use Rattle.ix_examples.specs.SmallPlans.{cycle, insertion, nothing, only_a, two_alternatives, two_halves};
 ghost use Rattle.ix_cluster.specs.declared.answers.Arrived.TheVariants.{Fresh, Known};
 ghost use Rattle.ix_cluster.specs.declared.answers.Claimed.TheVariants.{Mine, Taken, Unknown};
 ghost use Rattle.ix_cluster.specs.declared.fact.Fact.TheVariants as fact;
+ghost use Rattle.ix_cluster.specs.BankSteps as call;
 ghost use Rattle.ix_closure.specs.declared.owed.Owed.TheVariants.{Claim, Edge, End, Arrive};
 ghost use Rattle.ix_closure.specs.Balance.{IsBalanced};
 ghost use Rattle.ix_closure.specs.Closure.{IsClosure};
 ghost use Rattle.ix_closure.specs.Due.{IsRecorded, IsDue, FollowsIn, IsMissing};
-ghost use Rattle.ix_closure.specs.Events.{log_after, handed_by, bank_after, home_for, Event};
+ghost use Rattle.ix_closure.specs.Events.{call_of, log_after, handed_by, bank_after, home_for, Event};
 ghost use Rattle.ix_closure.specs.Examples.{alone, a_called, alternatives_claimed, IsUntidy, cycle_begun, cycle_called, cycle_claimed, nothing_begun, nothing_called, nothing_claimed, nothing_closed, nothing_ended, two_banks};
-ghost use Rattle.ix_closure.specs.Follows.{fact_of, sub_of, arrival, claims_at, claim_for, claims_for, FollowsDesc, FollowsClaim, opened, met_ends, met_edges, claim_of, Follows};
-ghost use Rattle.ix_closure.specs.Laws.{FollowsOnce, FollowsThere, EventOnce, HasMemory, EventThere, RunOnce, DueIsClosed, EventKeepsBalance, ClosureOnce};
+ghost use Rattle.ix_closure.specs.Follows.{fact_of, arrival, claims_at, claim_for, claims_for, FollowsDesc, FollowsClaim, opened, met_ends, met_edges, fresh_claim, Follows};
+ghost use Rattle.ix_closure.specs.LastRuns.{LastRun, IsReachedByLast};
+ghost use Rattle.ix_closure.specs.Laws.{FollowsOnce, FollowsThere, EventOnce, EventIsBankStep, HasMemory, EventThere, RunOnce, LastRunIsRun, DueIsClosed, EventKeepsBalance, RunKeepsBalance, ClosureOnce};
 ghost use Rattle.ix_closure.specs.Orders.{EveryOrder};
-ghost use Rattle.ix_closure.specs.Quantity.{same_step, times, gives, givers, step_bound};
+ghost use Rattle.ix_closure.specs.Quantity.{same_step, times, gives, givers, is_claim, weight, step_bound};
 ghost use Rattle.ix_closure.specs.Ready.{HasFurther, HasSlot, IsReady, IsReplaced};
 ghost use Rattle.ix_closure.specs.Runs.{Run, IsReached, IsQuiet};
 ghost use Rattle.ix_closure.specs.Tidy.{IsEmptyOfCalled, IsOwedOnce, IsTidy};
@@ -25,21 +28,21 @@ pub fn steps_have_facts()
     ensures claim { fact_of (Claim 2 0 1) ≡ fact.Claim 2 0 1 }
     ensures edge { fact_of (Edge 1 3 2 0) ≡ fact.Edge 1 3 2 0 }
     ensures end { fact_of (End 1 3 4) ≡ fact.End 1 3 4 }
-    ensures subtree { fact_of (Arrive (sub_of 1 0 0 1)) ≡ fact.Part (sub_of 1 0 0 1) }
+    ensures subtree { fact_of (Arrive (sub_at 1 0 0 1)) ≡ fact.Part (sub_at 1 0 0 1) }
     // A claim does not record its descriptor, which is there.
     ensures other { fact_of (Claim 2 0 1) ≢ fact.Desc 2 0 1 }
 {}
 
 /// A subtree has its slot, left end, pivot and right end in this order.
 pub fn subtree_has_its_numbers()
-    ensures numbers { sub_of 3 0 1 2 ≡ record { slot = 3; left = 0; pivot = 1; right = 2 } }
-    ensures other { sub_of 3 0 1 2 ≢ record { slot = 3; left = 0; pivot = 2; right = 1 } }
+    ensures numbers { sub_at 3 0 1 2 ≡ record { slot = 3; left = 0; pivot = 1; right = 2 } }
+    ensures other { sub_at 3 0 1 2 ≢ record { slot = 3; left = 0; pivot = 2; right = 1 } }
 {}
 
 /// Behind the rule from 1 to 4 that slot 2 waits for, slot 3 arrives at 4.
 pub fn edge_arrives_behind_its_rule()
-    ensures arrives { arrival 1 4 (record { slot = 2; left = 0 }) ≡ Arrive (sub_of 3 0 1 4) }
-    ensures same_slot { arrival 1 4 (record { slot = 2; left = 0 }) ≢ Arrive (sub_of 2 0 1 4) }
+    ensures arrives { arrival 1 4 (record { slot = 2; left = 0 }) ≡ Arrive (sub_at 3 0 1 4) }
+    ensures same_slot { arrival 1 4 (record { slot = 2; left = 0 }) ≢ Arrive (sub_at 2 0 1 4) }
 {}
 
 /// Each of the first slots is claimed at the position, in their order.
@@ -52,23 +55,23 @@ pub fn first_slots_are_claimed()
 /// Each descriptor among the facts has its claim, in their order, and no other fact has one.
 pub fn descriptors_have_claims()
     ensures descriptor { claim_for (fact.Desc 2 0 1) ≡ Some (Claim 2 0 1) }
-    ensures subtree { claim_for (fact.Part (sub_of 0 0 0 0)) ≡ None }
-    ensures claims { claims_for (fact.Called 0 0 ∷ fact.Desc 0 0 0 ∷ fact.Part (sub_of 0 0 0 0) ∷ fact.Desc 2 0 0 ∷ []) ≡ Claim 0 0 0 ∷ Claim 2 0 0 ∷ [] }
+    ensures subtree { claim_for (fact.Part (sub_at 0 0 0 0)) ≡ None }
+    ensures claims { claims_for (fact.Called 0 0 ∷ fact.Desc 0 0 0 ∷ fact.Part (sub_at 0 0 0 0) ∷ fact.Desc 2 0 0 ∷ []) ≡ Claim 0 0 0 ∷ Claim 2 0 0 ∷ [] }
     ensures turned { claims_for (fact.Desc 0 0 0 ∷ fact.Desc 2 0 0 ∷ []) ≢ Claim 2 0 0 ∷ Claim 0 0 0 ∷ [] }
 {}
 
 /// A terminal that stands there is passed, and one that does not stand there brings nothing.
 pub fn descriptor_passes_a_terminal()
-    ensures passes { FollowsDesc (only_a (codes "a")) 0 0 0 (Arrive (sub_of 1 0 0 1) ∷ []) }
+    ensures passes { FollowsDesc (only_a (codes "a")) 0 0 0 (Arrive (sub_at 1 0 0 1) ∷ []) }
     ensures no_stop { ¬ (FollowsDesc (only_a (codes "a")) 0 0 0 []) }
     ensures stops { FollowsDesc (only_a (codes "b")) 0 0 0 [] }
-    ensures no_arrival { ¬ (FollowsDesc (only_a (codes "b")) 0 0 0 (Arrive (sub_of 1 0 0 1) ∷ [])) }
+    ensures no_arrival { ¬ (FollowsDesc (only_a (codes "b")) 0 0 0 (Arrive (sub_at 1 0 0 1) ∷ [])) }
 {}
 
 /// An insertion is passed without a character, a rule is called, and a dot at the end ends its rule.
 pub fn descriptor_brings_by_its_symbol()
-    ensures inserts { FollowsDesc (insertion (codes "x")) 0 0 0 (Arrive (sub_of 1 0 0 0) ∷ []) }
-    ensures no_character { ¬ (FollowsDesc (insertion (codes "x")) 0 0 0 (Arrive (sub_of 1 0 0 1) ∷ [])) }
+    ensures inserts { FollowsDesc (insertion (codes "x")) 0 0 0 (Arrive (sub_at 1 0 0 0) ∷ []) }
+    ensures no_character { ¬ (FollowsDesc (insertion (codes "x")) 0 0 0 (Arrive (sub_at 1 0 0 1) ∷ [])) }
     ensures calls { FollowsDesc (cycle []) 0 0 0 (Edge 0 0 0 0 ∷ []) }
     ensures no_end { ¬ (FollowsDesc (cycle []) 0 0 0 (End 0 0 0 ∷ [])) }
     ensures ends { FollowsDesc (nothing []) 0 0 0 (End 0 0 0 ∷ []) }
@@ -79,12 +82,12 @@ pub fn descriptor_brings_by_its_symbol()
 
 /// What a descriptor brings comes with its first claim, and no other claim brings anything.
 pub fn first_claim_brings()
-    ensures mine { FollowsClaim (only_a (codes "a")) Mine 0 0 0 (Arrive (sub_of 1 0 0 1) ∷ []) }
+    ensures mine { FollowsClaim (only_a (codes "a")) Mine 0 0 0 (Arrive (sub_at 1 0 0 1) ∷ []) }
     ensures mine_nothing { ¬ (FollowsClaim (only_a (codes "a")) Mine 0 0 0 []) }
     ensures taken { FollowsClaim (only_a (codes "a")) Taken 0 0 0 [] }
-    ensures again { ¬ (FollowsClaim (only_a (codes "a")) Taken 0 0 0 (Arrive (sub_of 1 0 0 1) ∷ [])) }
+    ensures again { ¬ (FollowsClaim (only_a (codes "a")) Taken 0 0 0 (Arrive (sub_at 1 0 0 1) ∷ [])) }
     ensures unknown { FollowsClaim (only_a (codes "a")) Unknown 0 0 0 [] }
-    ensures unknown_brings { ¬ (FollowsClaim (only_a (codes "a")) Unknown 0 0 0 (Arrive (sub_of 1 0 0 1) ∷ [])) }
+    ensures unknown_brings { ¬ (FollowsClaim (only_a (codes "a")) Unknown 0 0 0 (Arrive (sub_at 1 0 0 1) ∷ [])) }
 {}
 
 /// The edge that calls its cluster opens the claims of the alternatives, and no other edge does.
@@ -96,36 +99,36 @@ pub fn calling_edge_opens_claims()
 
 /// A new edge goes on behind each end of its own cluster, in their order; the same edge does not go on again.
 pub fn edge_goes_on_behind_ends()
-    ensures ends { met_ends (fact.End 0 1 1 ∷ fact.End 0 0 3 ∷ fact.End 0 1 2 ∷ []) 0 1 4 0 ≡ Arrive (sub_of 5 0 1 1) ∷ Arrive (sub_of 5 0 1 2) ∷ [] }
+    ensures ends { met_ends (fact.End 0 1 1 ∷ fact.End 0 0 3 ∷ fact.End 0 1 2 ∷ []) 0 1 4 0 ≡ Arrive (sub_at 5 0 1 1) ∷ Arrive (sub_at 5 0 1 2) ∷ [] }
     ensures again { met_ends (fact.End 0 1 1 ∷ fact.Edge 0 1 4 0 ∷ []) 0 1 4 0 ≡ [] }
     ensures missed { met_ends (fact.End 0 1 1 ∷ fact.Edge 0 1 2 0 ∷ []) 0 1 4 0 ≢ [] }
 {}
 
 /// Each edge of its own cluster goes on behind a new end, in their order; behind the same end none goes on again.
 pub fn edges_go_on_behind_an_end()
-    ensures edges { met_edges (fact.Edge 0 1 4 0 ∷ fact.Edge 0 0 2 0 ∷ fact.Edge 0 1 6 1 ∷ []) 0 1 3 ≡ Arrive (sub_of 5 0 1 3) ∷ Arrive (sub_of 7 1 1 3) ∷ [] }
+    ensures edges { met_edges (fact.Edge 0 1 4 0 ∷ fact.Edge 0 0 2 0 ∷ fact.Edge 0 1 6 1 ∷ []) 0 1 3 ≡ Arrive (sub_at 5 0 1 3) ∷ Arrive (sub_at 7 1 1 3) ∷ [] }
     ensures again { met_edges (fact.Edge 0 1 4 0 ∷ fact.End 0 1 3 ∷ []) 0 1 3 ≡ [] }
     ensures missed { met_edges (fact.Edge 0 1 4 0 ∷ fact.End 0 1 2 ∷ []) 0 1 3 ≢ [] }
 {}
 
 /// The descriptor of a subtree is claimed where it is new.
 pub fn new_descriptor_is_claimed()
-    ensures fresh { claim_of Fresh (sub_of 1 0 2 3) ≡ Claim 1 0 3 ∷ [] }
-    ensures known { claim_of Known (sub_of 1 0 2 3) ≡ [] }
-    ensures at_pivot { claim_of Fresh (sub_of 1 0 2 3) ≢ Claim 1 0 2 ∷ [] }
+    ensures fresh { fresh_claim Fresh (sub_at 1 0 2 3) ≡ Claim 1 0 3 ∷ [] }
+    ensures known { fresh_claim Known (sub_at 1 0 2 3) ≡ [] }
+    ensures at_pivot { fresh_claim Fresh (sub_at 1 0 2 3) ≢ Claim 1 0 2 ∷ [] }
 {}
 
 /// A step brings its own list by the log that it met, and not another one.
 pub fn steps_bring_by_the_log()
-    ensures claim { Follows (only_a (codes "a")) (fact.Desc 0 0 0 ∷ []) (Claim 0 0 0) (Arrive (sub_of 1 0 0 1) ∷ []) }
-    ensures claimed { ¬ (Follows (only_a (codes "a")) (fact.Desc 0 0 0 ∷ fact.Claim 0 0 0 ∷ []) (Claim 0 0 0) (Arrive (sub_of 1 0 0 1) ∷ [])) }
+    ensures claim { Follows (only_a (codes "a")) (fact.Desc 0 0 0 ∷ []) (Claim 0 0 0) (Arrive (sub_at 1 0 0 1) ∷ []) }
+    ensures claimed { ¬ (Follows (only_a (codes "a")) (fact.Desc 0 0 0 ∷ fact.Claim 0 0 0 ∷ []) (Claim 0 0 0) (Arrive (sub_at 1 0 0 1) ∷ [])) }
     // The claims of the cluster that an edge calls come before the arrivals behind the ends that it meets.
-    ensures edge { Follows (cycle (codes "a")) (fact.End 0 0 1 ∷ []) (Edge 0 0 0 0) (Claim 0 0 0 ∷ Claim 2 0 0 ∷ Arrive (sub_of 1 0 0 1) ∷ []) }
-    ensures ends_first { ¬ (Follows (cycle (codes "a")) (fact.End 0 0 1 ∷ []) (Edge 0 0 0 0) (Arrive (sub_of 1 0 0 1) ∷ Claim 0 0 0 ∷ Claim 2 0 0 ∷ [])) }
-    ensures end { Follows (cycle (codes "a")) (fact.Edge 0 0 0 0 ∷ []) (End 0 0 1) (Arrive (sub_of 1 0 0 1) ∷ []) }
+    ensures edge { Follows (cycle (codes "a")) (fact.End 0 0 1 ∷ []) (Edge 0 0 0 0) (Claim 0 0 0 ∷ Claim 2 0 0 ∷ Arrive (sub_at 1 0 0 1) ∷ []) }
+    ensures ends_first { ¬ (Follows (cycle (codes "a")) (fact.End 0 0 1 ∷ []) (Edge 0 0 0 0) (Arrive (sub_at 1 0 0 1) ∷ Claim 0 0 0 ∷ Claim 2 0 0 ∷ [])) }
+    ensures end { Follows (cycle (codes "a")) (fact.Edge 0 0 0 0 ∷ []) (End 0 0 1) (Arrive (sub_at 1 0 0 1) ∷ []) }
     ensures no_meeting { ¬ (Follows (cycle (codes "a")) (fact.Edge 0 0 0 0 ∷ []) (End 0 0 1) []) }
-    ensures arrival { Follows (only_a (codes "a")) [] (Arrive (sub_of 1 0 0 1)) (Claim 1 0 1 ∷ []) }
-    ensures known { ¬ (Follows (only_a (codes "a")) (fact.Desc 1 0 1 ∷ []) (Arrive (sub_of 1 0 0 1)) (Claim 1 0 1 ∷ [])) }
+    ensures arrival { Follows (only_a (codes "a")) [] (Arrive (sub_at 1 0 0 1)) (Claim 1 0 1 ∷ []) }
+    ensures known { ¬ (Follows (only_a (codes "a")) (fact.Desc 1 0 1 ∷ []) (Arrive (sub_at 1 0 0 1)) (Claim 1 0 1 ∷ [])) }
 {}
 
 /// A step brings one list of steps, where its slot is there.
@@ -136,6 +139,20 @@ pub fn step_brings_one_list()
 
 // ---- a step on its bank
 
+/// Each step is done by the call of its own kind, with its own numbers.
+pub fn steps_have_calls()
+    ensures claim { call_of (Claim 2 0 1) ≡ call.MakeClaim 2 0 1 }
+    ensures edge { call_of (Edge 1 3 2 0) ≡ call.AddEdge 1 3 2 0 }
+    ensures end { call_of (End 1 3 4) ≡ call.AddEnd 1 3 4 }
+    ensures subtree { call_of (Arrive (sub_at 1 0 0 1)) ≡ call.Arrive (sub_at 1 0 0 1) }
+    ensures other_end { call_of (End 1 3 4) ≢ call.AddEnd 1 4 3 }
+{}
+
+/// An event does one step of the bank.
+pub fn event_is_a_step_of_its_bank()
+    ensures { EventIsBankStep }
+{}
+
 /// The log of its bank has the step's fact behind the others, and what comes with it.
 pub fn step_is_recorded()
     ensures claim { log_after (cycle []) cycle_called (Claim 2 0 0) ≡ fact.Called 0 0 ∷ fact.Desc 0 0 0 ∷ fact.Desc 2 0 0 ∷ fact.Claim 2 0 0 ∷ [] }
@@ -144,8 +161,8 @@ pub fn step_is_recorded()
     ensures edge { log_after (cycle []) [] (Edge 0 3 0 0) ≡ fact.Called 0 3 ∷ fact.Desc 0 3 3 ∷ fact.Desc 2 3 3 ∷ fact.Edge 0 3 0 0 ∷ [] }
     ensures end { log_after (cycle []) (fact.Edge 0 0 0 0 ∷ []) (End 0 0 1) ≡ fact.Edge 0 0 0 0 ∷ fact.End 0 0 1 ∷ [] }
     ensures again { log_after (cycle []) (fact.End 0 0 1 ∷ []) (End 0 0 1) ≡ fact.End 0 0 1 ∷ [] }
-    ensures arrival { log_after (cycle []) [] (Arrive (sub_of 3 0 0 1)) ≡ fact.Part (sub_of 3 0 0 1) ∷ fact.Desc 3 0 1 ∷ [] }
-    ensures alone { log_after (cycle []) [] (Arrive (sub_of 3 0 0 1)) ≢ fact.Part (sub_of 3 0 0 1) ∷ [] }
+    ensures arrival { log_after (cycle []) [] (Arrive (sub_at 3 0 0 1)) ≡ fact.Part (sub_at 3 0 0 1) ∷ fact.Desc 3 0 1 ∷ [] }
+    ensures alone { log_after (cycle []) [] (Arrive (sub_at 3 0 0 1)) ≢ fact.Part (sub_at 3 0 0 1) ∷ [] }
 {}
 
 /// A new edge hands out its pairs with the ends of its cluster, and a new end those with its edges; other steps hand out none.
@@ -154,7 +171,7 @@ pub fn pairs_are_handed_out()
     ensures again { handed_by (fact.Edge 0 0 0 0 ∷ fact.End 0 0 1 ∷ []) (End 0 0 1) ≡ 0 }
     ensures edge { handed_by (fact.End 0 0 1 ∷ fact.End 0 1 1 ∷ []) (Edge 0 0 0 0) ≡ 1 }
     ensures claim { handed_by (fact.Edge 0 0 0 0 ∷ fact.End 0 0 1 ∷ []) (Claim 0 0 0) ≡ 0 }
-    ensures arrival { handed_by (fact.Edge 0 0 0 0 ∷ fact.End 0 0 1 ∷ []) (Arrive (sub_of 1 0 0 1)) ≡ 0 }
+    ensures arrival { handed_by (fact.Edge 0 0 0 0 ∷ fact.End 0 0 1 ∷ []) (Arrive (sub_at 1 0 0 1)) ≡ 0 }
 {}
 
 /// After a step its bank has the new log, and the pairs that were handed out are counted.
@@ -168,7 +185,7 @@ pub fn steps_have_homes()
     ensures claim { home_for (cycle []) 4 (Claim 1 2 3) ≡ 2 }
     ensures edge { home_for (cycle []) 4 (Edge 2 3 1 0) ≡ 1 }
     ensures end { home_for (cycle []) 4 (End 2 3 7) ≡ 1 }
-    ensures subtree { home_for (cycle []) 4 (Arrive (sub_of 1 5 6 7)) ≡ 1 }
+    ensures subtree { home_for (cycle []) 4 (Arrive (sub_at 1 5 6 7)) ≡ 1 }
     // An edge belongs to the cluster that it is of, and not to that of its slot.
     ensures of_slot { home_for (cycle []) 4 (Edge 0 3 1 0) ≢ home_for (cycle []) 4 (Claim 1 0 3) }
 {}
@@ -241,6 +258,23 @@ pub fn choices_lead_to_one_state()
     ensures { RunOnce }
 {}
 
+/// Each choice is of the last step that is then owed.
+pub fn last_steps_lead_to_states()
+    ensures both { LastRun (nothing []) nothing_begun (0 ∷ 0 ∷ []) nothing_ended }
+    ensures none { LastRun (nothing []) nothing_begun [] nothing_begun }
+    ensures second { LastRun (cycle []) cycle_begun (1 ∷ []) (alone (cycle_called ++ fact.Claim 2 0 0 ∷ []) 0 (Claim 0 0 0 ∷ [])) }
+    // Of two the first is not the last.
+    ensures first { ¬ (LastRun (cycle []) cycle_begun (0 ∷ []) (cycle_claimed (Claim 2 0 0 ∷ Edge 0 0 0 0 ∷ []))) }
+    ensures too_few { ¬ (LastRun (nothing []) nothing_begun (0 ∷ []) nothing_ended) }
+    ensures reached { IsReachedByLast (nothing []) nothing_begun nothing_ended }
+    ensures back { ¬ (IsReachedByLast (nothing []) nothing_ended nothing_begun) }
+{}
+
+/// Steps of which each is the last that is owed are steps in some order.
+pub fn last_steps_are_steps()
+    ensures { LastRunIsRun }
+{}
+
 // ---- steps that follow, and states that owe them
 
 /// A fact is recorded where one of the banks has it.
@@ -253,11 +287,11 @@ pub fn fact_is_recorded_by_a_bank()
 pub fn claimed_descriptor_passes()
     ensures claim { IsDue (only_a (codes "a")) (Contains (fact.Desc 0 0 0 ∷ [])) (Claim 0 0 0) }
     ensures no_descriptor { ¬ (IsDue (only_a (codes "a")) (Contains (fact.Claim 0 0 0 ∷ [])) (Claim 0 0 0)) }
-    ensures passed { IsDue (only_a (codes "a")) (Contains (fact.Claim 0 0 0 ∷ [])) (Arrive (sub_of 1 0 0 1)) }
-    ensures unclaimed { ¬ (IsDue (only_a (codes "a")) (Contains (fact.Desc 0 0 0 ∷ [])) (Arrive (sub_of 1 0 0 1))) }
-    ensures other_text { ¬ (IsDue (only_a (codes "b")) (Contains (fact.Claim 0 0 0 ∷ [])) (Arrive (sub_of 1 0 0 1))) }
-    ensures inserted { IsDue (insertion (codes "x")) (Contains (fact.Claim 0 0 0 ∷ [])) (Arrive (sub_of 1 0 0 0)) }
-    ensures no_character { ¬ (IsDue (insertion (codes "x")) (Contains (fact.Claim 0 0 0 ∷ [])) (Arrive (sub_of 1 0 0 1))) }
+    ensures passed { IsDue (only_a (codes "a")) (Contains (fact.Claim 0 0 0 ∷ [])) (Arrive (sub_at 1 0 0 1)) }
+    ensures unclaimed { ¬ (IsDue (only_a (codes "a")) (Contains (fact.Desc 0 0 0 ∷ [])) (Arrive (sub_at 1 0 0 1))) }
+    ensures other_text { ¬ (IsDue (only_a (codes "b")) (Contains (fact.Claim 0 0 0 ∷ [])) (Arrive (sub_at 1 0 0 1))) }
+    ensures inserted { IsDue (insertion (codes "x")) (Contains (fact.Claim 0 0 0 ∷ [])) (Arrive (sub_at 1 0 0 0)) }
+    ensures no_character { ¬ (IsDue (insertion (codes "x")) (Contains (fact.Claim 0 0 0 ∷ [])) (Arrive (sub_at 1 0 0 1))) }
 {}
 
 /// A claimed descriptor waits for the rule behind its dot, or ends its own, and an edge and an end of one cluster meet.
@@ -266,9 +300,9 @@ pub fn edges_and_ends_follow()
     ensures before_terminal { ¬ (IsDue (cycle []) (Contains (fact.Claim 2 0 0 ∷ [])) (Edge 0 0 2 0)) }
     ensures ends { IsDue (nothing []) (Contains (fact.Claim 0 0 0 ∷ [])) (End 0 0 0) }
     ensures not_at_end { ¬ (IsDue (cycle []) (Contains (fact.Claim 0 0 0 ∷ [])) (End 0 0 0)) }
-    ensures meets { IsDue (cycle []) (Contains (fact.Edge 0 0 0 0 ∷ fact.End 0 0 1 ∷ [])) (Arrive (sub_of 1 0 0 1)) }
-    ensures no_edge { ¬ (IsDue (cycle []) (Contains (fact.End 0 0 1 ∷ [])) (Arrive (sub_of 1 0 0 1))) }
-    ensures other_cluster { ¬ (IsDue (cycle []) (Contains (fact.Edge 0 0 0 0 ∷ fact.End 0 1 1 ∷ [])) (Arrive (sub_of 1 0 0 1))) }
+    ensures meets { IsDue (cycle []) (Contains (fact.Edge 0 0 0 0 ∷ fact.End 0 0 1 ∷ [])) (Arrive (sub_at 1 0 0 1)) }
+    ensures no_edge { ¬ (IsDue (cycle []) (Contains (fact.End 0 0 1 ∷ [])) (Arrive (sub_at 1 0 0 1))) }
+    ensures other_cluster { ¬ (IsDue (cycle []) (Contains (fact.Edge 0 0 0 0 ∷ fact.End 0 1 1 ∷ [])) (Arrive (sub_at 1 0 0 1))) }
 {}
 
 /// The end follows once the descriptor is claimed, and is missing until it is recorded.
@@ -303,9 +337,10 @@ pub fn balanced_state_forgets_nothing()
     ensures end_still { IsBalanced (nothing []) (alone nothing_closed 0 (End 0 0 0 ∷ [])) }
 {}
 
-/// A step of a balanced state leads to a balanced state.
+/// A step of a balanced state leads to a balanced state, and so does each list of choices.
 pub fn events_keep_balance()
-    ensures { EventKeepsBalance }
+    ensures one { EventKeepsBalance }
+    ensures all { RunKeepsBalance }
 {}
 
 // ---- the closure
@@ -336,7 +371,7 @@ pub fn steps_are_told_apart()
     ensures same { same_step (End 0 1 2) (End 0 1 2) ≡ true }
     ensures number { same_step (End 0 1 2) (End 0 1 3) ≡ false }
     ensures kind { same_step (Claim 0 1 2) (End 0 1 2) ≡ false }
-    ensures pivot { same_step (Arrive (sub_of 1 0 0 1)) (Arrive (sub_of 1 0 1 1)) ≡ false }
+    ensures pivot { same_step (Arrive (sub_at 1 0 0 1)) (Arrive (sub_at 1 0 1 1)) ≡ false }
 {}
 
 /// A step counts as often as it is owed.
@@ -363,6 +398,17 @@ pub fn alternatives_give_one_end()
     ensures none { givers (two_alternatives (codes "a")) (fact.Claim 0 0 0 ∷ fact.Claim 1 0 1 ∷ fact.Claim 3 0 1 ∷ []) 0 0 0 ≡ 0 }
 {}
 
+/// A descriptor brings its claim, a claim one more step, and each pair of an edge and an end an arrival.
+pub fn facts_have_weight()
+    ensures claim { is_claim (fact.Claim 0 0 0) ≡ true }
+    ensures no_claim { is_claim (fact.Desc 0 0 0) ≡ false }
+    ensures called { weight nothing_called ≡ 1 }
+    ensures closed { weight nothing_closed ≡ 2 }
+    ensures pair { weight (fact.Edge 0 0 0 0 ∷ fact.Desc 3 0 1 ∷ fact.Claim 3 0 1 ∷ fact.End 0 0 1 ∷ []) ≡ 3 }
+    ensures no_pair { weight (fact.Edge 0 0 0 0 ∷ fact.End 0 1 1 ∷ []) ≡ 0 }
+    ensures not_twice { weight (fact.Desc 0 0 0 ∷ []) ≢ 2 }
+{}
+
 /// A descriptor brings its claim and one more step, and each pair of an edge and an end an arrival.
 pub fn facts_bound_the_steps()
     ensures descriptor { step_bound nothing_closed ≡ 2 }
@@ -375,10 +421,10 @@ pub fn facts_bound_the_steps()
 
 /// The empty subtree of an empty alternative stands where its rule is called.
 pub fn empty_subtree_is_of_a_call()
-    ensures empty { IsEmptyOfCalled (nothing []) nothing_begun (sub_of 0 0 0 0) }
-    ensures not_called { ¬ (IsEmptyOfCalled (nothing []) nothing_begun (sub_of 0 1 1 1)) }
-    ensures not_empty { ¬ (IsEmptyOfCalled (nothing []) nothing_begun (sub_of 0 0 0 1)) }
-    ensures of_a_literal { ¬ (IsEmptyOfCalled (cycle []) cycle_begun (sub_of 2 0 0 0)) }
+    ensures empty { IsEmptyOfCalled (nothing []) nothing_begun (sub_at 0 0 0 0) }
+    ensures not_called { ¬ (IsEmptyOfCalled (nothing []) nothing_begun (sub_at 0 1 1 1)) }
+    ensures not_empty { ¬ (IsEmptyOfCalled (nothing []) nothing_begun (sub_at 0 0 0 1)) }
+    ensures of_a_literal { ¬ (IsEmptyOfCalled (cycle []) cycle_begun (sub_at 2 0 0 0)) }
 {}
 
 /// A step that is not done is owed once.
@@ -403,7 +449,7 @@ pub fn tidy_state_owes_once()
     ensures claim_twice { IsUntidy (nothing []) (alone nothing_called 0 (Claim 0 0 0 ∷ Claim 0 0 0 ∷ [])) }
     ensures claim_recorded { IsUntidy (nothing []) (alone (nothing_called ++ fact.Claim 0 0 0 ∷ []) 0 (End 0 0 0 ∷ Claim 0 0 0 ∷ [])) }
     ensures edge_twice { IsUntidy (cycle []) (cycle_claimed (Claim 2 0 0 ∷ Edge 0 0 0 0 ∷ Edge 0 0 0 0 ∷ [])) }
-    ensures arrival_twice { IsUntidy (only_a (codes "a")) (alone (a_called ++ fact.Claim 0 0 0 ∷ []) 0 (Arrive (sub_of 1 0 0 1) ∷ Arrive (sub_of 1 0 0 1) ∷ [])) }
+    ensures arrival_twice { IsUntidy (only_a (codes "a")) (alone (a_called ++ fact.Claim 0 0 0 ∷ []) 0 (Arrive (sub_at 1 0 0 1) ∷ Arrive (sub_at 1 0 0 1) ∷ [])) }
     ensures end_twice { IsUntidy (nothing []) (alone (nothing_called ++ fact.Claim 0 0 0 ∷ []) 0 (End 0 0 0 ∷ End 0 0 0 ∷ [])) }
     ensures end_of_two { IsTidy (two_alternatives (codes "a")) alternatives_claimed }
 {}
@@ -412,7 +458,7 @@ pub fn tidy_state_owes_once()
 /// without its subtree, or the descriptor of a first slot without the call of its rule.
 pub fn tidy_state_has_causes()
     ensures edge { IsUntidy (cycle []) (alone (cycle_called ++ fact.Edge 0 0 0 0 ∷ []) 0 (Claim 0 0 0 ∷ Claim 2 0 0 ∷ [])) }
-    ensures subtree { IsUntidy (only_a (codes "a")) (alone (a_called ++ fact.Part (sub_of 1 0 0 1) ∷ fact.Desc 1 0 1 ∷ []) 0 (Claim 0 0 0 ∷ Claim 1 0 1 ∷ [])) }
+    ensures subtree { IsUntidy (only_a (codes "a")) (alone (a_called ++ fact.Part (sub_at 1 0 0 1) ∷ fact.Desc 1 0 1 ∷ []) 0 (Claim 0 0 0 ∷ Claim 1 0 1 ∷ [])) }
     ensures descriptor { IsUntidy (only_a (codes "a")) (alone (a_called ++ fact.Desc 1 0 1 ∷ []) 0 (Claim 0 0 0 ∷ Claim 1 0 1 ∷ [])) }
     ensures first_slot { IsUntidy (two_halves (codes "a")) (alone (a_called ++ fact.Desc 3 0 0 ∷ []) 0 (Claim 0 0 0 ∷ Claim 3 0 0 ∷ [])) }
 {}
@@ -439,8 +485,8 @@ pub fn slot_has_a_next_one()
 pub fn slot_tells_the_home()
     ensures claim { HasSlot (only_a []) (Claim 1 0 0) }
     ensures no_claim { ¬ (HasSlot (only_a []) (Claim 2 0 0)) }
-    ensures arrival { HasSlot (only_a []) (Arrive (sub_of 1 0 0 0)) }
-    ensures no_arrival { ¬ (HasSlot (only_a []) (Arrive (sub_of 2 0 0 0))) }
+    ensures arrival { HasSlot (only_a []) (Arrive (sub_at 1 0 0 0)) }
+    ensures no_arrival { ¬ (HasSlot (only_a []) (Arrive (sub_at 2 0 0 0))) }
     ensures edge { HasSlot (only_a []) (Edge 0 0 2 0) }
     ensures end { HasSlot (only_a []) (End 0 0 2) }
 {}
@@ -454,14 +500,14 @@ pub fn steps_are_in_range()
     ensures other_rule { ¬ (IsReady (cycle []) [] (Edge 1 0 0 0)) }
     ensures end { IsReady (cycle []) (fact.Edge 0 0 0 0 ∷ []) (End 0 0 1) }
     ensures no_next { ¬ (IsReady (cycle []) (fact.Edge 0 0 1 0 ∷ []) (End 0 0 1)) }
-    ensures arrival { IsReady (cycle []) [] (Arrive (sub_of 3 0 0 1)) }
-    ensures no_slot { ¬ (IsReady (cycle []) [] (Arrive (sub_of 4 0 0 1))) }
+    ensures arrival { IsReady (cycle []) [] (Arrive (sub_at 3 0 0 1)) }
+    ensures no_slot { ¬ (IsReady (cycle []) [] (Arrive (sub_at 4 0 0 1))) }
 {}
 
 /// The step is out, and what follows from it is behind the others.
 pub fn step_is_replaced()
-    ensures replaced { IsReplaced (only_a (codes "a")) (fact.Desc 0 0 0 ∷ []) (Claim 0 0 0) (Claim 0 0 0 ∷ End 0 0 0 ∷ []) 0 (End 0 0 0 ∷ Arrive (sub_of 1 0 0 1) ∷ []) }
-    ensures in_front { ¬ (IsReplaced (only_a (codes "a")) (fact.Desc 0 0 0 ∷ []) (Claim 0 0 0) (Claim 0 0 0 ∷ End 0 0 0 ∷ []) 0 (Arrive (sub_of 1 0 0 1) ∷ End 0 0 0 ∷ [])) }
-    ensures still_there { ¬ (IsReplaced (only_a (codes "a")) (fact.Desc 0 0 0 ∷ []) (Claim 0 0 0) (Claim 0 0 0 ∷ End 0 0 0 ∷ []) 0 (Claim 0 0 0 ∷ End 0 0 0 ∷ Arrive (sub_of 1 0 0 1) ∷ [])) }
+    ensures replaced { IsReplaced (only_a (codes "a")) (fact.Desc 0 0 0 ∷ []) (Claim 0 0 0) (Claim 0 0 0 ∷ End 0 0 0 ∷ []) 0 (End 0 0 0 ∷ Arrive (sub_at 1 0 0 1) ∷ []) }
+    ensures in_front { ¬ (IsReplaced (only_a (codes "a")) (fact.Desc 0 0 0 ∷ []) (Claim 0 0 0) (Claim 0 0 0 ∷ End 0 0 0 ∷ []) 0 (Arrive (sub_at 1 0 0 1) ∷ End 0 0 0 ∷ [])) }
+    ensures still_there { ¬ (IsReplaced (only_a (codes "a")) (fact.Desc 0 0 0 ∷ []) (Claim 0 0 0) (Claim 0 0 0 ∷ End 0 0 0 ∷ []) 0 (Claim 0 0 0 ∷ End 0 0 0 ∷ Arrive (sub_at 1 0 0 1) ∷ [])) }
     ensures forgotten { ¬ (IsReplaced (only_a (codes "a")) (fact.Desc 0 0 0 ∷ []) (Claim 0 0 0) (Claim 0 0 0 ∷ End 0 0 0 ∷ []) 0 (End 0 0 0 ∷ [])) }
 {}

@@ -9,8 +9,8 @@ ghost use Rattle.ix_closure.specs.Balance.{IsBalanced};
 ghost use Rattle.ix_closure.specs.Closure.{IsClosure};
 ghost use Rattle.ix_closure.specs.Events.{Event};
 ghost use Rattle.ix_closure.specs.Follows.{claims_at, claims_for};
+ghost use Rattle.ix_closure.specs.LastRuns.{IsReachedByLast};
 ghost use Rattle.ix_closure.specs.Orders.{EveryOrder};
-ghost use Rattle.ix_closure.specs.Runs.{IsReached};
 
 use crate::follow::push_claims;
 use crate::owed::Owed;
@@ -120,9 +120,10 @@ impl<'p> Core<'p> {
         ensures closure { IfOk result (λ banks. IsClosure self.entry.plan (facts_of banks.banks.items)) }
         ensures sound { IfOk result (λ banks. AreSound self.entry.plan banks.banks.items) }
         ensures few { IfOk result (λ banks. count_by is_descriptor (facts_of banks.banks.items) ≤ length self.entry.plan.slots * ((length self.entry.plan.text + 1) * (length self.entry.plan.text + 1))) }
-        ensures reached { IfOk result (λ banks. IsReached self.entry.plan self.entry.state (record { banks = banks.banks.items; owed = [] })) }
+        // Each step was the last of those that were then owed.
+        ensures reached { IfOk result (λ banks. IsReachedByLast self.entry.plan self.entry.state (record { banks = banks.banks.items; owed = [] })) }
         ensures err_plan { IfErr result (λ unfinished. unfinished.core.plan ≡ self.entry.plan) }
-        ensures err_reached { IfErr result (λ unfinished. IsReached self.entry.plan self.entry.state unfinished.core.state) }
+        ensures err_reached { IfErr result (λ unfinished. IsReachedByLast self.entry.plan self.entry.state unfinished.core.state) }
     {
         let mut core = self;
         loop {

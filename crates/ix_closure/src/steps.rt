@@ -11,7 +11,7 @@ ghost use Rattle.ix_cluster.specs.Steps.{after_arrival, arrival_answer};
 ghost use Rattle.ix_closure.specs.declared.owed.Owed.{Owed as Step};
 ghost use Rattle.ix_closure.specs.declared.owed.Owed.TheVariants as step;
 ghost use Rattle.ix_closure.specs.Events.{bank_after, home_for};
-ghost use Rattle.ix_closure.specs.Follows.{FollowsDesc, FollowsClaim, claim_of, met_edges, met_ends, opened};
+ghost use Rattle.ix_closure.specs.Follows.{FollowsDesc, FollowsClaim, fresh_claim, met_edges, met_ends, opened};
 ghost use Rattle.ix_closure.specs.Ready.{HasSlot, HasFurther, IsReady, IsReplaced};
 
 use crate::follow::{push_edges, push_ends, push_opened};
@@ -35,12 +35,28 @@ pub(crate) fn home_for(plan: &Plan, count: u32, step: Owed) -> u32
     }
 }
 
+// A slot, where its rule was called, and where its dot stands.
+#[derive(Clone, Copy)]
+struct Descriptor {
+    slot: u32,
+    left: u32,
+    pos: u32,
+}
+
+// A rule, and where it was called.
+#[derive(Clone, Copy)]
+struct Cluster {
+    rule: u32,
+    at: u32,
+}
+
 // What a descriptor brings that was claimed now.
-fn next_step(plan: &Plan, slot: u32, left: u32, pos: u32) -> Option<Owed>
-    requires slot { slot < length plan.now.slots }
-    requires pos { pos ≤ length plan.now.text }
-    ensures { FollowsDesc plan.now slot left pos (cons_option result []) }
+fn next_step(plan: &Plan, descriptor: Descriptor) -> Option<Owed>
+    requires slot { descriptor.slot < length plan.now.slots }
+    requires pos { descriptor.pos ≤ length plan.now.text }
+    ensures { FollowsDesc plan.now descriptor.slot descriptor.left descriptor.pos (cons_option result []) }
 {
+    let Descriptor { slot, left, pos } = descriptor;
     // What holds of each plan: what a symbol names is there.
     let _ = plan.slot_count();
     match plan.sym(slot) {
@@ -74,21 +90,21 @@ fn next_step(plan: &Plan, slot: u32, left: u32, pos: u32) -> Option<Owed>
 }
 
 // What a claim brings: nothing, where the descriptor was claimed before.
-fn claimed_step(plan: &Plan, claimed: Claimed, slot: u32, left: u32, pos: u32) -> Option<Owed>
-    requires slot { slot < length plan.now.slots }
-    requires pos { pos ≤ length plan.now.text }
-    ensures { FollowsClaim plan.now claimed slot left pos (cons_option result []) }
+fn claimed_step(plan: &Plan, claimed: Claimed, descriptor: Descriptor) -> Option<Owed>
+    requires slot { descriptor.slot < length plan.now.slots }
+    requires pos { descriptor.pos ≤ length plan.now.text }
+    ensures { FollowsClaim plan.now claimed descriptor.slot descriptor.left descriptor.pos (cons_option result []) }
 {
     match claimed {
-        Claimed::Mine => next_step(plan, slot, left, pos),
+        Claimed::Mine => next_step(plan, descriptor),
         Claimed::Taken => None,
         Claimed::Unknown => None,
     }
 }
 
 // The claim of a subtree's descriptor, where it was new.
-fn claim_of(arrived: Arrived, sub: Sub) -> Option<Owed>
-    ensures { cons_option result [] ≡ claim_of arrived sub }
+fn fresh_claim(arrived: Arrived, sub: Sub) -> Option<Owed>
+    ensures { cons_option result [] ≡ fresh_claim arrived sub }
 {
     match arrived {
         Arrived::Fresh => Some(Owed::Claim {
@@ -112,33 +128,25 @@ fn replace(owed: &mut Vec<Owed>, n: usize, step: Option<Owed>)
     }
 }
 
-fn do_claim(
-    plan: &Plan,
-    bank: &mut Bank,
-    owed: &mut Vec<Owed>,
-    n: usize,
-    slot: u32,
-    left: u32,
-    pos: u32,
-)
+fn do_claim(plan: &Plan, bank: &mut Bank, owed: &mut Vec<Owed>, n: usize, descriptor: Descriptor)
     requires n { n < length owed.old.items }
-    requires ready { IsReady plan.now bank.old.log (step.Claim slot left pos) }
-    ensures bank { bank.new ≡ bank_after plan.now bank.old (step.Claim slot left pos) }
-    ensures owed { IsReplaced plan.now bank.old.log (step.Claim slot left pos) owed.old.items n owed.new.items }
+    requires ready { IsReady plan.now bank.old.log (step.Claim descriptor.slot descriptor.left descriptor.pos) }
+    ensures bank { bank.new ≡ bank_after plan.now bank.old (step.Claim descriptor.slot descriptor.left descriptor.pos) }
+    ensures owed { IsReplaced plan.now bank.old.log (step.Claim descriptor.slot descriptor.left descriptor.pos) owed.old.items n owed.new.items }
 {
-    let claimed = bank.claim(slot, left, pos);
-    replace(owed, n, claimed_step(plan, claimed, slot, left, pos));
+    let claimed = bank.claim(descriptor.slot, descriptor.left, descriptor.pos);
+    replace(owed, n, claimed_step(plan, claimed, descriptor));
 }
 
 fn do_arrive(bank: &mut Bank, owed: &mut Vec<Owed>, n: usize, sub: Sub) -> Result<(), AllocError>
     requires n { n < length owed.old.items }
     ensures bank { OnOk result (bank.new ≡ record { log = after_arrival bank.old.log sub; handed = bank.old.handed }) }
-    ensures owed { OnOk result (owed.new.items ≡ remove owed.old.items n ++ claim_of (arrival_answer bank.old.log sub) sub) }
+    ensures owed { OnOk result (owed.new.items ≡ remove owed.old.items n ++ fresh_claim (arrival_answer bank.old.log sub) sub) }
     ensures err_bank { OnErr result (bank.new ≡ bank.old) }
     ensures err_owed { OnErr result (owed.new.items ≡ owed.old.items) }
 {
     let arrived = bank.arrive(sub)?;
-    replace(owed, n, claim_of(arrived, sub));
+    replace(owed, n, fresh_claim(arrived, sub));
     Ok(())
 }
 
@@ -147,21 +155,20 @@ fn do_end(
     bank: &mut Bank,
     owed: &mut Vec<Owed>,
     n: usize,
-    rule: u32,
-    at: u32,
+    cluster: Cluster,
     end: u32,
 ) -> Result<(), AllocError>
     requires n { n < length owed.old.items }
-    requires ready { IsReady plan.now bank.old.log (step.End rule at end) }
-    ensures bank { OnOk result (bank.new ≡ bank_after plan.now bank.old (step.End rule at end)) }
-    ensures owed { OnOk result (owed.new.items ≡ remove owed.old.items n ++ met_edges bank.old.log rule at end) }
+    requires ready { IsReady plan.now bank.old.log (step.End cluster.rule cluster.at end) }
+    ensures bank { OnOk result (bank.new ≡ bank_after plan.now bank.old (step.End cluster.rule cluster.at end)) }
+    ensures owed { OnOk result (owed.new.items ≡ remove owed.old.items n ++ met_edges bank.old.log cluster.rule cluster.at end) }
     ensures err_bank { OnErr result (bank.new ≡ bank.old) }
     ensures err_owed { OnErr result (owed.new.items ≡ owed.old.items) }
 {
-    owed.reserve(bank.edge_count(rule, at) as usize)?;
-    let edges = bank.add_end(rule, at, end)?;
+    owed.reserve(bank.edge_count(cluster.rule, cluster.at) as usize)?;
+    let edges = bank.add_end(cluster.rule, cluster.at, end)?;
     owed.remove(n);
-    push_edges(owed, plan, at, end, edges.as_slice());
+    push_edges(owed, plan, cluster.at, end, edges.as_slice());
     Ok(())
 }
 
@@ -170,25 +177,24 @@ fn do_edge(
     bank: &mut Bank,
     owed: &mut Vec<Owed>,
     n: usize,
-    rule: u32,
-    at: u32,
+    cluster: Cluster,
     edge: Edge,
 ) -> Result<(), AllocError>
     requires n { n < length owed.old.items }
-    requires ready { IsReady plan.now bank.old.log (step.Edge rule at edge.slot edge.left) }
-    ensures bank { OnOk result (bank.new ≡ bank_after plan.now bank.old (step.Edge rule at edge.slot edge.left)) }
-    ensures owed { OnOk result (owed.new.items ≡ remove owed.old.items n ++ (opened plan.now bank.old.log rule at edge.slot edge.left ++ met_ends bank.old.log rule at edge.slot edge.left)) }
+    requires ready { IsReady plan.now bank.old.log (step.Edge cluster.rule cluster.at edge.slot edge.left) }
+    ensures bank { OnOk result (bank.new ≡ bank_after plan.now bank.old (step.Edge cluster.rule cluster.at edge.slot edge.left)) }
+    ensures owed { OnOk result (owed.new.items ≡ remove owed.old.items n ++ (opened plan.now bank.old.log cluster.rule cluster.at edge.slot edge.left ++ met_ends bank.old.log cluster.rule cluster.at edge.slot edge.left)) }
     ensures err_bank { OnErr result (bank.new ≡ bank.old) }
     ensures err_owed { OnErr result (owed.new.items ≡ owed.old.items) }
 {
     // There are fewer facts than any machine has memory for.
     let _ = bank.fact_count();
-    let alternatives = plan.alt_count(rule) as u64;
-    owed.reserve((alternatives + bank.end_count(rule, at)) as usize)?;
-    let opened = bank.add_edge(plan, rule, at, edge.slot, edge.left)?;
+    let alternatives = plan.alt_count(cluster.rule) as u64;
+    owed.reserve((alternatives + bank.end_count(cluster.rule, cluster.at)) as usize)?;
+    let opened = bank.add_edge(plan, cluster.rule, cluster.at, edge.slot, edge.left)?;
     owed.remove(n);
-    push_opened(owed, plan, opened.first, rule, at);
-    push_ends(owed, plan, at, edge, opened.ends.as_slice());
+    push_opened(owed, plan, opened.first, cluster.rule, cluster.at);
+    push_ends(owed, plan, cluster.at, edge, opened.ends.as_slice());
     Ok(())
 }
 
@@ -210,7 +216,7 @@ pub(crate) fn do_step(
 {
     let done = match step {
         Owed::Claim { slot, left, pos } => {
-            do_claim(plan, bank, owed, n, slot, left, pos);
+            do_claim(plan, bank, owed, n, Descriptor { slot, left, pos });
             Ok(())
         }
         Owed::Edge {
@@ -218,8 +224,15 @@ pub(crate) fn do_step(
             at,
             slot,
             left,
-        } => do_edge(plan, bank, owed, n, rule, at, Edge { slot, left }),
-        Owed::End { rule, at, end } => do_end(plan, bank, owed, n, rule, at, end),
+        } => do_edge(
+            plan,
+            bank,
+            owed,
+            n,
+            Cluster { rule, at },
+            Edge { slot, left },
+        ),
+        Owed::End { rule, at, end } => do_end(plan, bank, owed, n, Cluster { rule, at }, end),
         Owed::Arrive(sub) => do_arrive(bank, owed, n, sub),
     };
     // There are fewer facts than any machine has memory for.

@@ -5,7 +5,7 @@ use Rattle.std.proofs.lemmas.List.Sums.{sum_by-cons}
 use Rattle.std.proofs.lemmas.Map.Keys.{IsDistinct-head, IsDistinct-tail, IsDistinct-cons}
 use Rattle.ix_cluster.specs.declared.fact.Fact.{Fact}
 use Rattle.ix_cluster.specs.declared.fact.Fact.TheVariants.{Called, Edge, End, Desc, Part, Claim}
-use Rattle.ix_cluster.specs.Banks.{later_of, is_descriptor, sub_of}
+use Rattle.ix_cluster.specs.Banks.{later_of, is_descriptor, recorded_sub}
 use Rattle.ix_cluster.specs.Facts.{has, same_fact}
 use Rattle.ix_cluster.specs.LogPlaces.{is_no_claim}
 use Rattle.ix_cluster.proofs.Counts.{either}
@@ -67,7 +67,7 @@ descriptors_but_claims (Desc s l p ∷ log) = omega (arith, descriptors_but_clai
 descriptors_but_claims (Part sub ∷ log) = omega (arith, descriptors_but_claims log, one-more (Part sub) log, one-more (Part sub) (filter is_no_claim log))
 descriptors_but_claims (Claim s l p ∷ log) = omega (arith, descriptors_but_claims log, one-more (Claim s l p) log)
 
-pub subs_but_claims : (log : List Fact) → filter_map sub_of (filter is_no_claim log) ≡ filter_map sub_of log
+pub subs_but_claims : (log : List Fact) → filter_map recorded_sub (filter is_no_claim log) ≡ filter_map recorded_sub log
 subs_but_claims [] = refl
 subs_but_claims (Called r k ∷ log) = subs_but_claims log
 subs_but_claims (Edge r k s l ∷ log) = subs_but_claims log

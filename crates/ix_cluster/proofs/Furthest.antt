@@ -4,7 +4,6 @@ use Rattle.std.proofs.lemmas.Bool.{cases_lt}
 use Rattle.ix_cluster.specs.declared.fact.Fact.{Fact}
 use Rattle.ix_cluster.specs.declared.fact.Fact.TheVariants.{Called, Edge, End, Desc, Part, Claim}
 use Rattle.ix_cluster.specs.Banks.{later_of}
-use Rattle.ix_cluster.specs.Furthest.{IsFurthest}
 use Rattle.ix_cluster.specs.Laws.{IsLaterOf, LaterIsGreatest}
 use Rattle.ix_cluster.proofs.Members.{first_has, rest_has, either_has, none_has}
 
@@ -41,7 +40,5 @@ later_is_greatest (Desc s l p ∷ facts) start = behind_descriptor s l p start f
 later_is_greatest (Part sub ∷ facts) start = behind (Part sub) (λ _ _ _ e. cc e) start facts _ (later_is_greatest facts start)
 later_is_greatest (Claim s l p ∷ facts) start = behind (Claim s l p) (λ _ _ _ e. cc e) start facts _ (later_is_greatest facts start)
 
-pub is_furthest : (facts : List Fact) (pos : ℕ) → pos ≡ fold later_of 0 facts → IsFurthest facts pos
-is_furthest facts pos e =
-    let is = later_is_greatest facts 0 in
-    rw e (record { upper = is.upper; reached = is.reached })
+pub is_furthest : (facts : List Fact) (pos : ℕ) → pos ≡ fold later_of 0 facts → IsLaterOf 0 facts pos
+is_furthest facts pos e = rw e (later_is_greatest facts 0)

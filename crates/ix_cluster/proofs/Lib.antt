@@ -15,3 +15,4 @@ pub mod Members
 pub mod Pairs
 pub mod SmallBanks
 pub mod Soundness
+pub mod StepCases

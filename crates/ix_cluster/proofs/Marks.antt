@@ -16,7 +16,7 @@ use Rattle.ix_cluster.specs.declared.log.Place.{Place}
 use Rattle.ix_cluster.specs.declared.log.Place.TheVariants.{Came, Claimed}
 use Rattle.ix_cluster.specs.declared.answers.Claimed.TheVariants.{Mine, Taken, Unknown}
 use Rattle.ix_cluster.specs.Facts.{has, put, same_fact}
-use Rattle.ix_cluster.specs.LogPlaces.{is_no_claim, claim_of, number_of, fact_at, log_of, AreMarked, IsLog}
+use Rattle.ix_cluster.specs.LogPlaces.{is_no_claim, as_claim, number_of, fact_at, log_of, AreMarked, IsLog}
 use Rattle.ix_cluster.specs.Room.{is_unclaimed, unclaimed_in, HasRoom}
 use Rattle.ix_cluster.specs.Steps.{claim_answer, after_claim}
 use Rattle.ix_cluster.proofs.ButClaims.{has-but_claims, once-filter}
@@ -50,7 +50,7 @@ AreWithin facts places = (place : Place) → Contains places place → number_of
 
 fact_at-push : (facts : List Fact) (f : Fact) (place : Place) → number_of place < length facts → fact_at (facts ++ f ∷ []) place ≡ fact_at facts place
 fact_at-push facts f (Came n) h = get_or_append_left facts (f ∷ []) (Called 0 0) n h
-fact_at-push facts f (Claimed n) h = ap claim_of (get_or_append_left facts (f ∷ []) (Called 0 0) n h)
+fact_at-push facts f (Claimed n) h = ap as_claim (get_or_append_left facts (f ∷ []) (Called 0 0) n h)
 
 log_of-push : (facts : List Fact) (f : Fact) (places : List Place) → AreWithin facts places → log_of (facts ++ f ∷ []) places ≡ log_of facts places
 log_of-push facts f [] within = refl
@@ -65,8 +65,8 @@ log_of-came facts f places within =
     log_of-append (facts ++ f ∷ []) places (Came (length facts) ∷ []) ∙
     ap₂ (λ l x. l ++ x ∷ []) (log_of-push facts f places within) (get_or-append_seam facts f [] (Called 0 0))
 
-log_of-claimed : (facts : List Fact) (places : List Place) (n : ℕ) (f : Fact) → slice_get facts n ≡ Some f → log_of facts (places ++ Claimed n ∷ []) ≡ log_of facts places ++ claim_of f ∷ []
-log_of-claimed facts places n f h = log_of-append facts places (Claimed n ∷ []) ∙ ap (λ x. log_of facts places ++ claim_of x ∷ []) (get_or_from_slice_get facts n f (Called 0 0) h)
+log_of-claimed : (facts : List Fact) (places : List Place) (n : ℕ) (f : Fact) → slice_get facts n ≡ Some f → log_of facts (places ++ Claimed n ∷ []) ≡ log_of facts places ++ as_claim f ∷ []
+log_of-claimed facts places n f h = log_of-append facts places (Claimed n ∷ []) ∙ ap (λ x. log_of facts places ++ as_claim x ∷ []) (get_or_from_slice_get facts n f (Called 0 0) h)
 
 within-push : (facts facts' : List Fact) (places : List Place) (p : Place) → length facts ≤ length facts' → AreWithin facts places → number_of p < length facts' → AreWithin facts' (places ++ p ∷ [])
 within-push facts facts' places p longer within here q h = by (Contains-push_cases places p q h)
@@ -188,7 +188,7 @@ module _ (facts : List Fact) (marks : List Bool) (places : List Place) (is : Are
             by : (m ≡ n) ⊎ (m ≡ n → ⊥) → slice_get (slice_set marks n true) m ≡ Some (has (log_of facts (places ++ Claimed n ∷ [])) (Claim s' l' p'))
             by (inl e) =
                 let same : Desc s l p ≡ Desc s' l' p' = some_same (sym at ∙ ap (slice_get facts) (sym e) ∙ h) in
-                ap (slice_get (slice_set marks n true)) e ∙ get-set_same marks n _ true (is.marked n s l p at) ∙ ap Some (sym (here (ap claim_of same)))
+                ap (slice_get (slice_set marks n true)) e ∙ get-set_same marks n _ true (is.marked n s l p at) ∙ ap Some (sym (here (ap as_claim same)))
             by (inr ne) =
                 get-set_other marks n m true (λ e. ne (sym e)) ∙ is.marked m s' l' p' h ∙
                 ap Some (sym (has_now (Claim s' l' p') ∙ ap (λ b. has (log_of facts places) (Claim s' l' p') || (b || false)) (apart ne (either (same_fact (Desc s' l' p') (Desc s l p)))) ∙ or_false (has (log_of facts places) (Claim s' l' p'))))

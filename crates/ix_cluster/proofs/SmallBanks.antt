@@ -5,7 +5,7 @@ use Rattle.ix_model.specs.Expansion.SlotPlaces.{IsFirst}
 use Rattle.ix_model.specs.Expansion.Expanded.{line}
 use Rattle.ix_examples.specs.SmallPlans.{cycle, named, call, literal}
 use Rattle.ix_cluster.specs.Banks.{opening_bank}
-use Rattle.ix_cluster.specs.Sound.{IsSound}
+use Rattle.ix_cluster.specs.Sound.{IsSoundBank}
 use Rattle.ix_cluster.proofs.Soundness.{sound-begin}
 
 pub cycle_planned : IsPlanned (cycle [])
@@ -18,5 +18,5 @@ first_begins = (0, call 0 ∷ [], refl, (named ((call 0 ∷ []) ∷ (literal 0 �
 pub second_begins : IsFirst (cycle []) 2 0
 second_begins = (1, literal 0 ∷ [], refl, (named ((call 0 ∷ []) ∷ (literal 0 ∷ []) ∷ []), line (literal 0 ∷ []), refl, refl, refl))
 
-pub begins_sound : IsSound (cycle []) 1 0 (opening_bank (cycle []) 1 0)
+pub begins_sound : IsSoundBank (cycle []) 1 0 (opening_bank (cycle []) 1 0)
 begins_sound = sound-begin (cycle []) 1 0 cycle_planned refl (search rules)

@@ -36,6 +36,6 @@ is_descriptor (Desc s l p) = true
 is_descriptor _ = false
 
 -- the binary subtree that the fact is
-abbrev pub sub_of : Fact → Option Sub
-sub_of (Part sub) = Some sub
-sub_of _ = None
+abbrev pub recorded_sub : Fact → Option Sub
+recorded_sub (Part sub) = Some sub
+recorded_sub _ = None

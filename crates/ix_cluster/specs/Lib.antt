@@ -1,10 +1,10 @@
+pub mod BankSteps
 pub mod Banks
 pub mod ClosedFacts
 pub mod Consistent
 pub mod Examples
 pub mod Facts
 pub mod Firsts
-pub mod Furthest
 pub mod Handed
 pub mod Homes
 pub mod Laws
@@ -14,4 +14,5 @@ pub mod LogPlaces
 pub mod Room
 pub mod Seen
 pub mod Sound
+pub mod StepAnswers
 pub mod Steps

@@ -14,9 +14,9 @@ is_no_claim (Claim s l p) = false
 is_no_claim _ = true
 
 -- the claim of a descriptor; any other fact stays
-abbrev pub claim_of : Fact → Fact
-claim_of (Desc s l p) = Claim s l p
-claim_of f = f
+abbrev pub as_claim : Fact → Fact
+as_claim (Desc s l p) = Claim s l p
+as_claim f = f
 
 -- the number of a fact that came, or of the descriptor that was claimed
 abbrev pub number_of : Place → ℕ
@@ -26,7 +26,7 @@ number_of (Claimed n) = n
 -- what stands at the place, where these are the facts; a number behind them stands for no fact of a log
 abbrev pub fact_at : List Fact → Place → Fact
 fact_at facts (Came n) = slice_index_or facts n (Called 0 0)
-fact_at facts (Claimed n) = claim_of (slice_index_or facts n (Called 0 0))
+fact_at facts (Claimed n) = as_claim (slice_index_or facts n (Called 0 0))
 
 -- the log, in the order of the places
 abbrev pub log_of : List Fact → List Place → List Fact

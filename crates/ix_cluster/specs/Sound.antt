@@ -30,7 +30,7 @@ pub record HasCompanions (plan : Parts) (log : List Fact) : Type 0 where
   pub edges : (r k s l : ℕ) → Contains log (Edge r k s l) → Contains log (Called r k)
 
 -- what holds of bank m, of so many
-pub record IsSound (plan : Parts) (count m : ℕ) (bank : Bank) : Type 0 where
+pub record IsSoundBank (plan : Parts) (count m : ℕ) (bank : Bank) : Type 0 where
   -- each fact stands in the log once, and this bank is its home
   pub once : IsDistinct same_fact bank.log
   pub at_home : (f : Fact) → Contains bank.log f → home_of plan count f ≡ m
@@ -47,4 +47,4 @@ pub record IsSound (plan : Parts) (count m : ℕ) (bank : Bank) : Type 0 where
 pub record AreSound (plan : Parts) (banks : List Bank) : Type 0 where
   pub some : 0 < length banks
   pub few : length banks ≤ 64
-  pub each : (m : ℕ) (bank : Bank) → slice_get banks m ≡ Some bank → IsSound plan (length banks) m bank
+  pub each : (m : ℕ) (bank : Bank) → slice_get banks m ≡ Some bank → IsSoundBank plan (length banks) m bank

@@ -7,13 +7,14 @@ ghost use Rattle.ix_model.specs.Expansion.Numbered.{lines_at};
 ghost use Rattle.ix_model.specs.Expansion.Parts.{Parts};
 ghost use Rattle.ix_model.specs.Expansion.Slots.{sym_after};
 ghost use Rattle.ix_cluster.specs.declared.fact.Fact.TheVariants as fact;
+ghost use Rattle.ix_cluster.specs.BankSteps.{BankStep, AddEdge, AddEnd, Arrive, MakeClaim, Opens, Meets, Arrives, Belongs};
 ghost use Rattle.ix_cluster.specs.Facts.{same_fact, has, put};
 ghost use Rattle.ix_cluster.specs.Firsts.{firsts_of};
 ghost use Rattle.ix_cluster.specs.ClosedFacts.{IsInClosed};
 ghost use Rattle.ix_cluster.specs.Homes.{home, home_of};
 ghost use Rattle.ix_cluster.specs.Lists.{cluster};
 ghost use Rattle.ix_cluster.specs.LogPlaces.{is_no_claim};
-ghost use Rattle.ix_cluster.specs.Sound.{IsSound};
+ghost use Rattle.ix_cluster.specs.Sound.{IsSoundBank};
 ghost use Rattle.ix_cluster.specs.Room.{unclaimed_in};
 ghost use Rattle.ix_cluster.specs.Steps.{after_call, after_first, after_firsts, claim_answer, after_claim, arrival_answer, after_arrival, end_answer, edges_in, ends_in, edge_is_first, edge_answer, after_edge};
 
@@ -125,7 +126,7 @@ impl Bank {
     pub(crate) fn begin(alloc: Global, plan: &Plan) -> Result<Bank, AllocError>
         ensures log { IfOk result (λ bank. bank.log ≡ after_call plan.now [] 0 0) }
         ensures handed { IfOk result (λ bank. bank.handed ≡ 0) }
-        ensures sound { (count m : ℕ) → home 0 0 count ≡ m → IfOk result (λ bank. IsSound plan.now count m bank) }
+        ensures sound { (count m : ℕ) → home 0 0 count ≡ m → IfOk result (λ bank. IsSoundBank plan.now count m bank) }
     {
         // What holds of each plan: it has a first rule.
         let _ = plan.slot_count();
@@ -199,10 +200,12 @@ impl Bank {
     /// Claims the descriptor, and says whose it is: `Unknown` exactly where the bank has no such descriptor, `Taken`
     /// exactly where it was claimed before.
     pub fn claim(&mut self, slot: u32, left: u32, pos: u32) -> Claimed
+        // It is one step of the bank, which needs no plan.
+        ensures step { (plan : Parts) → BankStep plan self.old.log (MakeClaim slot left pos) (Belongs result) self.new.log }
         ensures answer { result ≡ claim_answer self.old.log slot left pos }
         ensures log { self.new.log ≡ after_claim self.old.log slot left pos }
         ensures handed { self.new.handed ≡ self.old.handed }
-        ensures sound { (plan : Parts) (count m : ℕ) → IsSound plan count m self.old → IsSound plan count m self.new }
+        ensures sound { (plan : Parts) (count m : ℕ) → IsSoundBank plan count m self.old → IsSoundBank plan count m self.new }
     {
         self.log.claim(slot, left, pos)
     }
@@ -211,12 +214,14 @@ impl Bank {
     ///
     /// An error is want of memory, and the bank is as before.
     pub fn arrive(&mut self, sub: Sub) -> Result<Arrived, AllocError>
+        // It is one step of the bank, which needs no plan.
+        ensures step { (plan : Parts) → IfOk result (λ answer. BankStep plan self.old.log (Arrive sub) (Arrives answer) self.new.log) }
         ensures answer { IfOk result (λ answer. answer ≡ arrival_answer self.old.log sub) }
         ensures log { OnOk result (self.new.log ≡ after_arrival self.old.log sub) }
         ensures handed { self.new.handed ≡ self.old.handed }
         ensures err { OnErr result (self.new ≡ self.old) }
         // What is recorded is a fact of the closure, and this bank is its home.
-        ensures sound { (plan : Parts) (count m : ℕ) → IsSound plan count m self.old → IsInClosed plan (fact.Part sub) → home_of plan count (fact.Part sub) ≡ m → IsSound plan count m self.new }
+        ensures sound { (plan : Parts) (count m : ℕ) → IsSoundBank plan count m self.old → IsInClosed plan (fact.Part sub) → home_of plan count (fact.Part sub) ≡ m → IsSoundBank plan count m self.new }
     {
         self.log.reserve(4)?;
         self.log.add(Fact::Part(sub));
@@ -237,12 +242,14 @@ impl Bank {
         at: u32,
         end: u32,
     ) -> Result<SmallVec<Edge, 4, Global>, AllocError>
+        // It is one step of the bank, which needs no plan.
+        ensures step { (plan : Parts) → IfOk result (λ edges. BankStep plan self.old.log (AddEnd rule at end) (Meets edges.items) self.new.log) }
         ensures answer { IfOk result (λ edges. edges.items ≡ end_answer self.old.log rule at end) }
         ensures log { OnOk result (self.new.log ≡ put self.old.log (fact.End rule at end)) }
         ensures handed { IfOk result (λ edges. self.new.handed ≡ self.old.handed + length edges.items) }
         ensures err { OnErr result (self.new ≡ self.old) }
         // What is recorded is a fact of the closure, and this bank is its home.
-        ensures sound { (plan : Parts) (count m : ℕ) → IsSound plan count m self.old → IsInClosed plan (fact.End rule at end) → home_of plan count (fact.End rule at end) ≡ m → IsSound plan count m self.new }
+        ensures sound { (plan : Parts) (count m : ℕ) → IsSoundBank plan count m self.old → IsInClosed plan (fact.End rule at end) → home_of plan count (fact.End rule at end) ≡ m → IsSoundBank plan count m self.new }
     {
         let cluster = Cluster { rule, at };
         // First everything that can fail: room for the fact, for the answer and for the end.
@@ -275,13 +282,15 @@ impl Bank {
         requires slot { slot < length plan.now.slots }
         // The symbol after the slot's dot is this rule.
         requires symbol { (mark : Option Mark) × (sym_after plan.now slot ≡ Some (sym.Rule rule mark)) }
+        // It is one step of the bank.
+        ensures step { IfOk result (λ opened. BankStep plan.now self.old.log (AddEdge rule at slot left) (Opens opened.first opened.ends.items) self.new.log) }
         ensures first { IfOk result (λ opened. opened.first ≡ edge_is_first self.old.log rule at slot left) }
         ensures ends { IfOk result (λ opened. opened.ends.items ≡ edge_answer self.old.log rule at slot left) }
         ensures log { OnOk result (self.new.log ≡ after_edge plan.now self.old.log rule at slot left) }
         ensures handed { IfOk result (λ opened. self.new.handed ≡ self.old.handed + length opened.ends.items) }
         ensures err { OnErr result (self.new ≡ self.old) }
         // What is recorded is a fact of the closure, and this bank is its home.
-        ensures sound { (count m : ℕ) → IsSound plan.now count m self.old → IsInClosed plan.now (fact.Edge rule at slot left) → home_of plan.now count (fact.Edge rule at slot left) ≡ m → IsSound plan.now count m self.new }
+        ensures sound { (count m : ℕ) → IsSoundBank plan.now count m self.old → IsInClosed plan.now (fact.Edge rule at slot left) → home_of plan.now count (fact.Edge rule at slot left) ≡ m → IsSoundBank plan.now count m self.new }
     {
         // What holds of each plan: the rule that a symbol names is there.
         let _ = plan.slot_count();

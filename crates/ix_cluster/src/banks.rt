@@ -1,9 +1,9 @@
 //! Several banks, and what they have recorded together.
 ghost use Rattle.std.specs.Prelude.{◌≡◌, ◌<◌, ◌≤◌, ◌+◌, ◌++◌, length, slice_get, Some, IfOk, OnOk};
 ghost use Rattle.std.specs.List.{count_by, filter_map, fold};
-ghost use Rattle.ix_cluster.specs.Banks.{opening, opening_bank, facts_of, later_of, is_descriptor, sub_of};
-ghost use Rattle.ix_cluster.specs.Furthest.{IsFurthest};
-ghost use Rattle.ix_cluster.specs.Sound.{IsSound, AreSound};
+ghost use Rattle.ix_cluster.specs.Banks.{opening, opening_bank, facts_of, later_of, is_descriptor, recorded_sub};
+ghost use Rattle.ix_cluster.specs.Laws.{IsLaterOf};
+ghost use Rattle.ix_cluster.specs.Sound.{IsSoundBank, AreSound};
 
 use crate::bank::Bank;
 use crate::cluster::home;
@@ -55,7 +55,7 @@ impl Banks {
     /// The greatest position of a descriptor, or 0, in characters from 0.
     pub fn furthest(&self) -> u32
         ensures value { result ≡ fold later_of 0 (facts_of self.now.banks.items) }
-        ensures greatest { IsFurthest (facts_of self.now.banks.items) result }
+        ensures greatest { IsLaterOf 0 (facts_of self.now.banks.items) result }
     {
         let mut furthest = 0;
         for bank in &self.banks {
@@ -82,7 +82,7 @@ impl Banks {
     ///
     /// An error is want of memory.
     pub fn all_subs(&self, alloc: Global) -> Result<Vec<Sub>, AllocError>
-        ensures { IfOk result (λ subs. subs.items ≡ filter_map sub_of (facts_of self.now.banks.items)) }
+        ensures { IfOk result (λ subs. subs.items ≡ filter_map recorded_sub (facts_of self.now.banks.items)) }
     {
         let mut subs = Vec::new(alloc);
         for bank in &self.banks {
@@ -96,7 +96,7 @@ impl Banks {
 fn opening_bank(alloc: Global, plan: &Plan, count: u32, m: u32) -> Result<Bank, AllocError>
     requires { 0 < count }
     ensures opening { IfOk result (λ bank. bank ≡ opening_bank plan.now count m) }
-    ensures sound { IfOk result (λ bank. IsSound plan.now count m bank) }
+    ensures sound { IfOk result (λ bank. IsSoundBank plan.now count m bank) }
 {
     // What holds of each plan: it has a first rule.
     let _ = plan.slot_count();
@@ -136,7 +136,7 @@ fn descriptor_count(facts: &[Fact]) -> u64
 
 // Adds the subtrees among the facts, in their order.
 fn add_subs(subs: &mut Vec<Sub>, facts: &[Fact]) -> Result<(), AllocError>
-    ensures { OnOk result (subs.new.items ≡ subs.old.items ++ filter_map sub_of facts.now) }
+    ensures { OnOk result (subs.new.items ≡ subs.old.items ++ filter_map recorded_sub facts.now) }
 {
     for fact in facts {
         if let Fact::Part(sub) = fact {

@@ -5,22 +5,23 @@ ghost use Rattle.ix_examples.specs.SmallPlans.{cycle, nothing};
 ghost use Rattle.ix_cluster.specs.declared.answers.Arrived.TheVariants as arrived;
 ghost use Rattle.ix_cluster.specs.declared.answers.Claimed.TheVariants as claimed;
 ghost use Rattle.ix_cluster.specs.declared.fact.Fact.TheVariants.{Called, Edge, End, Desc, Part, Claim};
-ghost use Rattle.ix_cluster.specs.Banks.{opening, opening_bank, facts_of, later_of, is_descriptor, sub_of};
+ghost use Rattle.ix_cluster.specs.BankSteps.{BankStep, AddEdge, AddEnd, Arrive, MakeClaim, Opens, Meets, Arrives, Belongs};
+ghost use Rattle.ix_cluster.specs.Banks.{opening, opening_bank, facts_of, later_of, is_descriptor, recorded_sub};
 ghost use Rattle.ix_cluster.specs.ClosedFacts.{IsInClosed};
 ghost use Rattle.ix_cluster.specs.Consistent.{EdgesAreCalled, IsConsistent};
 ghost use Rattle.ix_cluster.specs.declared.log.Place.TheVariants.{Came, Claimed};
 ghost use Rattle.ix_cluster.specs.Examples.{two_ends, three_ends, one_edge, no_ends, empty_lists, full_ends};
 ghost use Rattle.ix_cluster.specs.Facts.{has, put, same_fact};
 ghost use Rattle.ix_cluster.specs.Firsts.{first_slot, firsts_of, is_at_end};
-ghost use Rattle.ix_cluster.specs.Furthest.{IsFurthest};
 ghost use Rattle.ix_cluster.specs.Handed.{meets, pair_count, IsKept};
 ghost use Rattle.ix_cluster.specs.Homes.{home, home_of};
 ghost use Rattle.ix_cluster.specs.Laws.{AreClustersOf, edges_times_ends, PairsAreByCluster, IsLaterOf, LaterIsGreatest};
 ghost use Rattle.ix_cluster.specs.Listed.{AreListed};
 ghost use Rattle.ix_cluster.specs.Lists.{cluster, same_cluster, list_at, PushesAt, KeepsLists, IsPlaceFor};
-ghost use Rattle.ix_cluster.specs.LogPlaces.{is_no_claim, claim_of, number_of, fact_at, log_of, AreMarked, IsLog};
+ghost use Rattle.ix_cluster.specs.LogPlaces.{is_no_claim, as_claim, number_of, fact_at, log_of, AreMarked, IsLog};
 ghost use Rattle.ix_cluster.specs.Room.{is_unclaimed, unclaimed_in, HasRoom};
-ghost use Rattle.ix_cluster.specs.Sound.{AreTrue, HasCompanions, IsSound, AreSound};
+ghost use Rattle.ix_cluster.specs.Sound.{AreTrue, HasCompanions, IsSoundBank, AreSound};
+ghost use Rattle.ix_cluster.specs.StepAnswers.{answer_to, after_step, StepIsOne, StepAppends, ClaimIsMark};
 ghost use Rattle.ix_cluster.specs.Steps.{empty_sub, claim_answer, after_claim, arrival_answer, after_arrival, edges_in, ends_in, end_answer, after_call, after_edge, edge_is_first, edge_answer};
 
 /// A fact that is there is not recorded again, and another one goes behind it.
@@ -90,6 +91,77 @@ pub fn first_edge_calls_its_cluster()
     ensures alone { after_edge (cycle []) (Called 0 0 ∷ []) 0 0 0 0 ≡ Called 0 0 ∷ Edge 0 0 0 0 ∷ [] }
     // An empty alternative has its subtree.
     ensures empty { after_call (nothing []) [] 0 3 ≡ Called 0 3 ∷ Desc 0 3 3 ∷ Part (empty_sub 0 3) ∷ [] }
+{}
+
+/// A call has one answer and leaves one log. What it adds stands behind what was there, and a claim is a mark alone.
+pub fn step_has_one_outcome()
+    ensures one { StepIsOne }
+    ensures appends { StepAppends }
+    ensures mark { ClaimIsMark }
+{}
+
+/// Each kind of call has an answer of its own kind, and leaves the log with its facts behind.
+pub fn calls_are_answered()
+    ensures edge { answer_to (End 0 0 2 ∷ []) (AddEdge 0 0 5 0) ≡ Opens true (2 ∷ []) }
+    ensures end { answer_to (Edge 0 0 2 0 ∷ []) (AddEnd 0 0 1) ≡ Meets (record { slot = 2; left = 0 } ∷ []) }
+    ensures subtree { answer_to [] (Arrive (empty_sub 0 0)) ≡ Arrives arrived.Fresh }
+    ensures claim { answer_to (Desc 0 0 0 ∷ []) (MakeClaim 0 0 0) ≡ Belongs claimed.Mine }
+    ensures edge_after { after_step (cycle []) (Called 0 0 ∷ []) (AddEdge 0 0 0 0) ≡ Called 0 0 ∷ Edge 0 0 0 0 ∷ [] }
+    ensures end_after { after_step (cycle []) (Called 0 0 ∷ []) (AddEnd 0 0 1) ≡ Called 0 0 ∷ End 0 0 1 ∷ [] }
+    ensures subtree_after { after_step (cycle []) [] (Arrive (empty_sub 0 0)) ≡ Part (empty_sub 0 0) ∷ Desc 0 0 0 ∷ [] }
+    ensures claim_after { after_step (cycle []) (Desc 0 0 0 ∷ []) (MakeClaim 0 0 0) ≡ Desc 0 0 0 ∷ Claim 0 0 0 ∷ [] }
+{}
+
+/// The first edge of a cluster calls it and meets its ends in their order, and the same edge changes nothing and meets none.
+pub fn edge_is_a_step()
+    ensures calls { BankStep (cycle []) (End 0 0 2 ∷ End 0 1 4 ∷ End 0 0 3 ∷ []) (AddEdge 0 0 0 0) (Opens true (2 ∷ 3 ∷ [])) (End 0 0 2 ∷ End 0 1 4 ∷ End 0 0 3 ∷ Called 0 0 ∷ Desc 0 0 0 ∷ Desc 2 0 0 ∷ Edge 0 0 0 0 ∷ []) }
+    ensures joins { BankStep (cycle []) (Called 0 0 ∷ End 0 0 2 ∷ []) (AddEdge 0 0 0 0) (Opens false (2 ∷ [])) (Called 0 0 ∷ End 0 0 2 ∷ Edge 0 0 0 0 ∷ []) }
+    ensures again { BankStep (cycle []) (Called 0 0 ∷ End 0 0 2 ∷ Edge 0 0 0 0 ∷ []) (AddEdge 0 0 0 0) (Opens false []) (Called 0 0 ∷ End 0 0 2 ∷ Edge 0 0 0 0 ∷ []) }
+    // The ends are not turned round or left out, and another cluster's is none of them.
+    ensures turned { ¬ (BankStep (cycle []) (Called 0 0 ∷ End 0 0 2 ∷ End 0 0 3 ∷ []) (AddEdge 0 0 0 0) (Opens false (3 ∷ 2 ∷ [])) (Called 0 0 ∷ End 0 0 2 ∷ End 0 0 3 ∷ Edge 0 0 0 0 ∷ [])) }
+    ensures forgotten { ¬ (BankStep (cycle []) (Called 0 0 ∷ End 0 0 2 ∷ []) (AddEdge 0 0 0 0) (Opens false []) (Called 0 0 ∷ End 0 0 2 ∷ Edge 0 0 0 0 ∷ [])) }
+    ensures other_cluster { ¬ (BankStep (cycle []) (Called 0 0 ∷ End 0 1 2 ∷ []) (AddEdge 0 0 0 0) (Opens false (2 ∷ [])) (Called 0 0 ∷ End 0 1 2 ∷ Edge 0 0 0 0 ∷ [])) }
+    // A called cluster is not new, and does not begin again; one that is not called does begin.
+    ensures not_first { ¬ (BankStep (cycle []) (Called 0 0 ∷ []) (AddEdge 0 0 0 0) (Opens true []) (Called 0 0 ∷ Edge 0 0 0 0 ∷ [])) }
+    ensures not_begun { ¬ (BankStep (cycle []) [] (AddEdge 0 0 0 0) (Opens true []) (Called 0 0 ∷ Edge 0 0 0 0 ∷ [])) }
+    ensures twice { ¬ (BankStep (cycle []) (Called 0 0 ∷ Edge 0 0 0 0 ∷ []) (AddEdge 0 0 0 0) (Opens false []) (Called 0 0 ∷ Edge 0 0 0 0 ∷ Edge 0 0 0 0 ∷ [])) }
+    ensures met_again { ¬ (BankStep (cycle []) (End 0 0 2 ∷ Called 0 0 ∷ Edge 0 0 0 0 ∷ []) (AddEdge 0 0 0 0) (Opens false (2 ∷ [])) (End 0 0 2 ∷ Called 0 0 ∷ Edge 0 0 0 0 ∷ [])) }
+{}
+
+/// A new end meets the edges of its cluster in their order, and the same end changes nothing and meets none.
+pub fn end_is_a_step()
+    ensures comes { BankStep (cycle []) (Edge 0 0 2 0 ∷ Edge 0 1 4 1 ∷ Edge 0 0 3 0 ∷ []) (AddEnd 0 0 1) (Meets (record { slot = 2; left = 0 } ∷ record { slot = 3; left = 0 } ∷ [])) (Edge 0 0 2 0 ∷ Edge 0 1 4 1 ∷ Edge 0 0 3 0 ∷ End 0 0 1 ∷ []) }
+    ensures again { BankStep (cycle []) (Edge 0 0 2 0 ∷ End 0 0 1 ∷ []) (AddEnd 0 0 1) (Meets []) (Edge 0 0 2 0 ∷ End 0 0 1 ∷ []) }
+    ensures turned { ¬ (BankStep (cycle []) (Edge 0 0 2 0 ∷ Edge 0 0 3 0 ∷ []) (AddEnd 0 0 1) (Meets (record { slot = 3; left = 0 } ∷ record { slot = 2; left = 0 } ∷ [])) (Edge 0 0 2 0 ∷ Edge 0 0 3 0 ∷ End 0 0 1 ∷ [])) }
+    ensures forgotten { ¬ (BankStep (cycle []) (Edge 0 0 2 0 ∷ []) (AddEnd 0 0 1) (Meets []) (Edge 0 0 2 0 ∷ End 0 0 1 ∷ [])) }
+    ensures met_again { ¬ (BankStep (cycle []) (Edge 0 0 2 0 ∷ End 0 0 1 ∷ []) (AddEnd 0 0 1) (Meets (record { slot = 2; left = 0 } ∷ [])) (Edge 0 0 2 0 ∷ End 0 0 1 ∷ [])) }
+    ensures not_recorded { ¬ (BankStep (cycle []) [] (AddEnd 0 0 1) (Meets []) []) }
+    ensures in_front { ¬ (BankStep (cycle []) (Called 0 0 ∷ []) (AddEnd 0 0 1) (Meets []) (End 0 0 1 ∷ Called 0 0 ∷ [])) }
+{}
+
+/// A subtree is recorded before its descriptor, each where it is new, and the answer tells whether the descriptor was.
+pub fn arrival_is_a_step()
+    ensures fresh { BankStep (cycle []) [] (Arrive (empty_sub 0 0)) (Arrives arrived.Fresh) (Part (empty_sub 0 0) ∷ Desc 0 0 0 ∷ []) }
+    ensures known { BankStep (cycle []) (Desc 0 0 0 ∷ []) (Arrive (empty_sub 0 0)) (Arrives arrived.Known) (Desc 0 0 0 ∷ Part (empty_sub 0 0) ∷ []) }
+    ensures again { BankStep (cycle []) (Desc 0 0 0 ∷ Part (empty_sub 0 0) ∷ []) (Arrive (empty_sub 0 0)) (Arrives arrived.Known) (Desc 0 0 0 ∷ Part (empty_sub 0 0) ∷ []) }
+    ensures turned { ¬ (BankStep (cycle []) [] (Arrive (empty_sub 0 0)) (Arrives arrived.Fresh) (Desc 0 0 0 ∷ Part (empty_sub 0 0) ∷ [])) }
+    ensures alone { ¬ (BankStep (cycle []) [] (Arrive (empty_sub 0 0)) (Arrives arrived.Fresh) (Part (empty_sub 0 0) ∷ [])) }
+    ensures not_fresh { ¬ (BankStep (cycle []) (Desc 0 0 0 ∷ []) (Arrive (empty_sub 0 0)) (Arrives arrived.Fresh) (Desc 0 0 0 ∷ Part (empty_sub 0 0) ∷ [])) }
+    ensures not_known { ¬ (BankStep (cycle []) [] (Arrive (empty_sub 0 0)) (Arrives arrived.Known) (Part (empty_sub 0 0) ∷ Desc 0 0 0 ∷ [])) }
+    ensures of_another_kind { ¬ (BankStep (cycle []) [] (Arrive (empty_sub 0 0)) (Belongs claimed.Mine) (Part (empty_sub 0 0) ∷ Desc 0 0 0 ∷ [])) }
+{}
+
+/// A claim marks a descriptor that is there and not claimed, and else nothing changes.
+pub fn claim_is_a_step()
+    ensures mine { BankStep (cycle []) (Desc 0 0 0 ∷ []) (MakeClaim 0 0 0) (Belongs claimed.Mine) (Desc 0 0 0 ∷ Claim 0 0 0 ∷ []) }
+    ensures taken { BankStep (cycle []) (Desc 0 0 0 ∷ Claim 0 0 0 ∷ []) (MakeClaim 0 0 0) (Belongs claimed.Taken) (Desc 0 0 0 ∷ Claim 0 0 0 ∷ []) }
+    ensures unknown { BankStep (cycle []) (Desc 0 0 1 ∷ []) (MakeClaim 0 0 0) (Belongs claimed.Unknown) (Desc 0 0 1 ∷ []) }
+    ensures records_nothing { ¬ (BankStep (cycle []) (Desc 0 0 0 ∷ []) (MakeClaim 0 0 0) (Belongs claimed.Mine) (Desc 0 0 0 ∷ [])) }
+    ensures twice { ¬ (BankStep (cycle []) (Desc 0 0 0 ∷ Claim 0 0 0 ∷ []) (MakeClaim 0 0 0) (Belongs claimed.Mine) (Desc 0 0 0 ∷ Claim 0 0 0 ∷ [])) }
+    ensures not_unknown { ¬ (BankStep (cycle []) (Desc 0 0 0 ∷ []) (MakeClaim 0 0 0) (Belongs claimed.Unknown) (Desc 0 0 0 ∷ [])) }
+    ensures no_descriptor { ¬ (BankStep (cycle []) [] (MakeClaim 0 0 0) (Belongs claimed.Mine) (Claim 0 0 0 ∷ [])) }
+    // The mark does not take its descriptor's place.
+    ensures in_its_place { ¬ (BankStep (cycle []) (Desc 0 0 0 ∷ []) (MakeClaim 0 0 0) (Belongs claimed.Mine) (Claim 0 0 0 ∷ [])) }
 {}
 
 /// An edge and an end of one cluster are a pair, whichever comes first, and those of two clusters are none.
@@ -169,8 +241,8 @@ pub fn descriptor_waits_for_its_claim()
 pub fn claims_are_marks()
     ensures plain { is_no_claim (Desc 0 0 0) ≡ true }
     ensures claim { is_no_claim (Claim 0 0 0) ≡ false }
-    ensures of { claim_of (Desc 1 0 2) ≡ Claim 1 0 2 }
-    ensures other { claim_of (Called 0 0) ≡ Called 0 0 }
+    ensures of { as_claim (Desc 1 0 2) ≡ Claim 1 0 2 }
+    ensures other { as_claim (Called 0 0) ≡ Called 0 0 }
     ensures number { number_of (Claimed 3) ≡ 3 }
     ensures came { fact_at (Called 0 0 ∷ Desc 0 0 0 ∷ []) (Came 1) ≡ Desc 0 0 0 }
     ensures claimed { fact_at (Called 0 0 ∷ Desc 0 0 0 ∷ []) (Claimed 1) ≡ Claim 0 0 0 }
@@ -197,7 +269,7 @@ pub fn banks_are_read_in_order()
     ensures facts { facts_of (record { log = Desc 1 0 3 ∷ []; handed = 0 } ∷ record { log = Part (empty_sub 0 1) ∷ Desc 0 1 1 ∷ []; handed = 0 } ∷ []) ≡ Desc 1 0 3 ∷ Part (empty_sub 0 1) ∷ Desc 0 1 1 ∷ [] }
     ensures furthest { fold later_of 0 (Desc 1 0 3 ∷ Claim 1 0 4 ∷ Desc 0 1 1 ∷ []) ≡ 3 }
     ensures descriptors { count_by is_descriptor (Desc 1 0 3 ∷ Claim 1 0 3 ∷ Desc 0 1 1 ∷ []) ≡ 2 }
-    ensures subtrees { filter_map sub_of (Desc 1 0 3 ∷ Part (empty_sub 0 1) ∷ []) ≡ empty_sub 0 1 ∷ [] }
+    ensures subtrees { filter_map recorded_sub (Desc 1 0 3 ∷ Part (empty_sub 0 1) ∷ []) ≡ empty_sub 0 1 ∷ [] }
 {}
 
 /// The later of a position and those of some facts is the greatest of that position and the descriptors'.
@@ -207,10 +279,10 @@ pub fn later_is_greatest()
 
 /// Claims and subtrees do not count for the furthest position; without a descriptor it is 0.
 pub fn furthest_is_a_descriptors()
-    ensures furthest { IsFurthest (Desc 1 0 3 ∷ Claim 1 0 4 ∷ Desc 0 1 1 ∷ []) 3 }
-    ensures none { IsFurthest (Called 0 2 ∷ []) 0 }
-    ensures too_small { ¬ (IsFurthest (Desc 1 0 3 ∷ Desc 0 1 1 ∷ []) 1) }
-    ensures too_great { ¬ (IsFurthest (Desc 1 0 3 ∷ []) 4) }
+    ensures furthest { IsLaterOf 0 (Desc 1 0 3 ∷ Claim 1 0 4 ∷ Desc 0 1 1 ∷ []) 3 }
+    ensures none { IsLaterOf 0 (Called 0 2 ∷ []) 0 }
+    ensures too_small { ¬ (IsLaterOf 0 (Desc 1 0 3 ∷ Desc 0 1 1 ∷ []) 1) }
+    ensures too_great { ¬ (IsLaterOf 0 (Desc 1 0 3 ∷ []) 4) }
     ensures later { IsLaterOf 2 (Desc 0 1 1 ∷ []) 2 }
     ensures not_later { ¬ (IsLaterOf 2 (Desc 0 1 1 ∷ []) 1) }
 {}
@@ -233,9 +305,9 @@ pub fn facts_come_in_order()
 
 /// The banks of a plan begin sound. A bank without the call of the first rule is not sound where it is its home.
 pub fn banks_begin_sound()
-    ensures one { IsSound (cycle []) 1 0 (opening_bank (cycle []) 1 0) }
+    ensures one { IsSoundBank (cycle []) 1 0 (opening_bank (cycle []) 1 0) }
     ensures all { AreSound (cycle []) (opening (cycle []) 1) }
-    ensures empty { ¬ (IsSound (cycle []) 1 0 (record { log = []; handed = 0 })) }
-    ensures away { ¬ (IsSound (cycle []) 2 1 (opening_bank (cycle []) 2 0)) }
+    ensures empty { ¬ (IsSoundBank (cycle []) 1 0 (record { log = []; handed = 0 })) }
+    ensures away { ¬ (IsSoundBank (cycle []) 2 1 (opening_bank (cycle []) 2 0)) }
     ensures none { ¬ (AreSound (cycle []) []) }
 {}

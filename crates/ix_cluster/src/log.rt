@@ -5,7 +5,7 @@ ghost use Rattle.std.specs.Prelude.{◌≡◌, ◌<◌, ◌≤◌, ◌+◌, ◌-
 ghost use Rattle.std.specs.List.{IsDistinct};
 ghost use Rattle.indexmap.specs.IndexSet.{spare};
 ghost use Rattle.ix_cluster.specs.Facts.{same_fact, has, put};
-ghost use Rattle.ix_cluster.specs.LogPlaces.{is_no_claim, claim_of};
+ghost use Rattle.ix_cluster.specs.LogPlaces.{is_no_claim, as_claim};
 ghost use Rattle.ix_cluster.specs.Room.{is_unclaimed, unclaimed_in};
 ghost use Rattle.ix_cluster.specs.declared.fact.Fact.{Fact};
 ghost use Rattle.ix_cluster.specs.declared.fact.Fact.TheVariants as fact;
@@ -61,8 +61,8 @@ impl Model for Log {
 }
 
 // The claim of a descriptor.
-fn claim_of(fact: Fact) -> Fact
-    ensures { result ≡ claim_of fact }
+fn as_claim(fact: Fact) -> Fact
+    ensures { result ≡ as_claim fact }
 {
     match fact {
         Fact::Desc { slot, left, pos } => Fact::Claim { slot, left, pos },
@@ -126,7 +126,7 @@ impl Log {
     {
         match self.places[n as usize] {
             Place::Came(number) => self.facts.as_slice()[number as usize],
-            Place::Claimed(number) => claim_of(self.facts.as_slice()[number as usize]),
+            Place::Claimed(number) => as_claim(self.facts.as_slice()[number as usize]),
         }
     }
 

@@ -11,6 +11,7 @@ use Rattle.ix_closure.specs.Balance.{IsBalanced}
 use Rattle.ix_closure.specs.Due.{IsDue, IsRecorded, FollowsIn, IsMissing}
 use Rattle.ix_closure.specs.Events.{Event, log_after}
 use Rattle.ix_closure.specs.Follows.{fact_of, Follows}
+use Rattle.ix_closure.specs.Runs.{Run, rests, goes_on}
 use Rattle.ix_closure.specs.Seen.{State}
 use Rattle.ix_closure.proofs.Due.BroughtSteps.{Brings, claim_brings, end_brings, arrival_brings, edge_brings}
 use Rattle.ix_closure.proofs.Balancing.EventBanks.{SharesHome, HomeMoves, step_due, step_closed, event_sound, event_moves}
@@ -56,3 +57,8 @@ module _ (plan : Parts) (planned : IsPlanned plan) (old new : State) (n : ℕ) (
     missing = λ o h. subst (λ (z : List Owed). Contains z o) (sym event.owed) (missing_owed o h);
     caused = λ o h. owed_due o (subst (λ (z : List Owed). Contains z o) event.owed h);
   }
+
+-- and so does each list of choices
+pub run_balanced : (plan : Parts) → IsPlanned plan → (first : State) (choices : List ℕ) (last : State) → IsBalanced plan first → Run plan first choices last → IsBalanced plan last
+run_balanced plan planned first choices last balanced rests = balanced
+run_balanced plan planned first choices last balanced (goes_on before n middle _ run event) = event_balanced plan planned middle last n (run_balanced plan planned first before middle balanced run) event

@@ -5,7 +5,7 @@ use Rattle.ix_model.specs.Expansion.Planned.{IsPlanned}
 use Rattle.ix_cluster.specs.declared.fact.Fact.{Fact}
 use Rattle.ix_cluster.specs.ClosedFacts.{IsInClosed}
 use Rattle.ix_cluster.specs.Homes.{home_of}
-use Rattle.ix_cluster.specs.Sound.{IsSound, AreSound}
+use Rattle.ix_cluster.specs.Sound.{IsSoundBank, AreSound}
 use Rattle.ix_closure.specs.declared.owed.Owed.{Owed}
 use Rattle.ix_closure.specs.Balance.{IsBalanced}
 use Rattle.ix_closure.specs.Due.{IsRecorded, FollowsIn}
@@ -35,7 +35,7 @@ module _ (plan : Parts) (planned : IsPlanned plan) (old new : State) (n : ℕ) (
   step_closed = owed_closed plan old balanced event.step (nth_has old.owed n event.step event.taken)
 
   -- the bank that does it stays sound
-  new_sound : IsSound plan (length old.banks) (home_for plan (length old.banks) event.step) (bank_after plan event.bank event.step)
+  new_sound : IsSoundBank plan (length old.banks) (home_for plan (length old.banks) event.step) (bank_after plan event.bank event.step)
   new_sound =
       bank_sound plan planned (length old.banks) (home_for plan (length old.banks) event.step) event.bank event.step step_closed refl event.bounded
       (balanced.sound.each (home_for plan (length old.banks) event.step) event.bank event.there)

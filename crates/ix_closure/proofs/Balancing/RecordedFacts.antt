@@ -7,10 +7,11 @@ use Rattle.ix_cluster.specs.declared.fact.Fact.{Fact}
 use Rattle.ix_cluster.specs.ClosedFacts.{IsInClosed}
 use Rattle.ix_cluster.specs.Homes.{home_of}
 use Rattle.ix_cluster.specs.Seen.{Bank}
-use Rattle.ix_cluster.specs.Sound.{IsSound, AreSound}
+use Rattle.ix_cluster.specs.Sound.{IsSoundBank, AreSound}
 use Rattle.ix_closure.specs.Due.{IsRecorded}
 use Rattle.ix_closure.proofs.Lists.ListMembers.{nth_has, place_in, flat_has, flat_from}
-use Rattle.ix_closure.proofs.Lists.ListUpdates.{set_there, set_other, set_from}
+use Rattle.ix_closure.proofs.Lists.ListUpdates.{set_other, set_from}
+use Rattle.ix_cluster.proofs.Elements.{get-set_same}
 
 -- a bank went from one log to another; the facts of which it is the home are Mine, and Before and After hold of what all
 -- banks have recorded before and after
@@ -49,14 +50,14 @@ module _ (plan : Parts) (banks : List Bank) (sound : AreSound plan banks) where
   pub recorded_closed : (f : Fact) → IsRecorded banks f → IsInClosed plan f
   recorded_closed f h = let p = recorded_in banks f h in (sound.each p.0 p.1 p.2).true_facts.closed f p.3
 
-  module _ (m : ℕ) (bank new : Bank) (there : slice_get banks m ≡ Some bank) (sound_new : IsSound plan (length banks) m new) (grown : (f : Fact) → Contains bank.log f → Contains new.log f) where
+  module _ (m : ℕ) (bank new : Bank) (there : slice_get banks m ≡ Some bank) (sound_new : IsSoundBank plan (length banks) m new) (grown : (f : Fact) → Contains bank.log f → Contains new.log f) where
     -- the banks after one of them changed are sound
     pub set_sound : AreSound plan (slice_set banks m new)
     set_sound = record {
       some = subst (λ n. 0 < n) (sym (length-set banks m new)) sound.some;
       few = subst (λ n. n ≤ 64) (sym (length-set banks m new)) sound.few;
-      each = λ n b e. subst (λ count. IsSound plan count n b) (sym (length-set banks m new)) (elim (set_from banks m n new b e) [
-        | inl h ↦ subst (λ i. IsSound plan (length banks) i b) (sym h.0) (subst (IsSound plan (length banks) m) h.1 sound_new)
+      each = λ n b e. subst (λ count. IsSoundBank plan count n b) (sym (length-set banks m new)) (elim (set_from banks m n new b e) [
+        | inl h ↦ subst (λ i. IsSoundBank plan (length banks) i b) (sym h.0) (subst (IsSoundBank plan (length banks) m) h.1 sound_new)
         | inr h ↦ sound.each n b h.1
       ]);
     }
@@ -65,14 +66,14 @@ module _ (plan : Parts) (banks : List Bank) (sound : AreSound plan banks) where
     grows_at f n b e h = elim (cases_eq n m) [
       | inl w ↦
           let same : b ≡ bank = cc (e, ap (slice_get banks) w, there) in
-          recorded_by (slice_set banks m new) m new f (set_there banks m bank new there) (grown f (subst (λ (c : Bank). Contains c.log f) same h))
+          recorded_by (slice_set banks m new) m new f (get-set_same banks m bank new there) (grown f (subst (λ (c : Bank). Contains c.log f) same h))
       | inr w ↦ recorded_by (slice_set banks m new) n b f (set_other banks m n new b w e) h
     ]
 
     pub set_moves : Moves (λ f. home_of plan (length banks) f ≡ m) (IsRecorded banks) (IsRecorded (slice_set banks m new)) bank.log new.log
     set_moves = record {
       grows = λ f h. let p = recorded_in banks f h in grows_at f p.0 p.1 p.2 p.3;
-      made = λ f h. recorded_by (slice_set banks m new) m new f (set_there banks m bank new there) h;
+      made = λ f h. recorded_by (slice_set banks m new) m new f (get-set_same banks m bank new there) h;
       from = λ f h. let p = recorded_in (slice_set banks m new) f h in elim (set_from banks m p.0 new p.1 p.2) [
         | inl w ↦ inr (subst (λ (b : Bank). Contains b.log f) (sym w.1) p.3)
         | inr w ↦ inl (recorded_by banks p.0 p.1 f w.1 p.3)

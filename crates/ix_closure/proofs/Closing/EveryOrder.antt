@@ -12,7 +12,8 @@ use Rattle.ix_closure.specs.Seen.{State}
 use Rattle.ix_closure.specs.Tidy.{IsTidy}
 use Rattle.ix_closure.proofs.Balancing.EventBalance.{event_balanced}
 use Rattle.ix_closure.proofs.Tidying.EventTidy.{event_tidy}
-use Rattle.ix_closure.proofs.Weighing.FewChoices.{few_choices}
+use Rattle.ix_closure.proofs.Weighing.FewChoices.{few_choices, few_steps}
+use Rattle.ix_closure.proofs.Weighing.Weights.{weight_of_facts}
 use Rattle.ix_closure.proofs.Balancing.Opening.{opening_balanced, opening_tidy}
 use Rattle.ix_closure.proofs.Closing.QuietClosure.{quiet_closure}
 
@@ -27,5 +28,6 @@ module _ (plan : Parts) (planned : IsPlanned plan) (first : State) (banks : firs
   every_order = record {
     tidy = run_tidy;
     ends = λ choices last run quiet. quiet_closure plan last (run_tidy choices last run).balanced (ap length quiet);
+    paid = λ choices last run. omega (arith, few_steps plan planned first banks owed run_tidy last choices run, weight_of_facts last.banks);
     short = λ choices last all run closure. omega (arith, few_choices plan planned first banks owed run_tidy last choices run all closure);
   }

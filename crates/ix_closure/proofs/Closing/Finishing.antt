@@ -1,5 +1,5 @@
 -- Each step of a core that is being finished leaves less to do.
-use Rattle.std.proofs.Common.{◌≡◌, ℕ, ◌+◌, ◌-◌, ◌*◌, ◌^◌, ◌<◌, ◌≤◌, false, List, [], ◌∷◌, ◌++◌, length, Contains, Result, Ok, Err, OnOk, is_err, ◌⊎◌, inl, inr, arith}
+use Rattle.std.proofs.Common.{◌≡◌, ℕ, ◌+◌, ◌-◌, ◌*◌, ◌^◌, ◌<◌, ◌≤◌, false, List, length, Contains, Result, Ok, Err, OnOk, is_err, ◌⊎◌, inl, inr, arith}
 use Rattle.std.proofs.Math.Nat.{mul-le-mul_right}
 use Rattle.ix_model.specs.Expansion.Parts.{Parts}
 use Rattle.ix_model.specs.Expansion.Planned.{IsPlanned}
@@ -8,7 +8,6 @@ use Rattle.ix_cluster.specs.Seen.{Bank}
 use Rattle.ix_cluster.specs.Sound.{AreSound}
 use Rattle.ix_closure.specs.Balance.{IsBalanced}
 use Rattle.ix_closure.specs.Events.{Event}
-use Rattle.ix_closure.specs.Runs.{IsReached, goes_on}
 use Rattle.ix_closure.specs.Seen.{State}
 use Rattle.ix_closure.proofs.Balancing.EventBanks.{event_sound}
 use Rattle.ix_closure.proofs.Lists.ListCounts.{length_flat}
@@ -43,7 +42,3 @@ pub event_falls : (plan : Parts) → IsPlanned plan → (old new : State) (n : �
 event_falls plan planned old new n balanced event small =
     room_falls (2 ^ 63) (2 ^ 64) (length (facts_of old.banks)) (length (facts_of new.banks)) (length old.owed) (length new.owed)
     (few_facts plan new.banks (event_sound plan planned old new n balanced event)) (omega (arith, small)) (event_shrinks plan old new n event)
-
--- one step further
-pub reached_further : (plan : Parts) (first before after : State) (n : ℕ) → IsReached plan first before → Event plan before n after → IsReached plan first after
-reached_further plan first before after n r event = (r.0 ++ n ∷ [], goes_on r.0 n before after r.1 event)

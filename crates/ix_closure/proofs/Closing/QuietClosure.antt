@@ -2,6 +2,7 @@
 use Rattle.std.proofs.Common.{◌≡◌, ℕ, ◌<◌, List, [], length, get_or, Contains, refl, subst, ◌⊎◌, inl, inr, arith}
 use Rattle.std.proofs.lemmas.List.{nil_from_length}
 use Rattle.std.proofs.lemmas.Option.{slice_get-get_or}
+use Rattle.ix_model.specs.Closure.Useful.{sub_at}
 use Rattle.ix_model.specs.Closure.Closed as closed
 use Rattle.ix_model.specs.Expansion.Parts.{Parts}
 use Rattle.ix_cluster.specs.declared.fact.Fact.{Fact}
@@ -19,7 +20,7 @@ use Rattle.ix_closure.specs.declared.owed.Owed.TheVariants as step
 use Rattle.ix_closure.specs.Balance.{IsBalanced}
 use Rattle.ix_closure.specs.Closure.{IsClosure}
 use Rattle.ix_closure.specs.Due.{IsRecorded, FollowsIn, claim, passed, inserted, waits, ends, meets}
-use Rattle.ix_closure.specs.Follows.{fact_of, sub_of}
+use Rattle.ix_closure.specs.Follows.{fact_of}
 use Rattle.ix_closure.specs.Seen.{State}
 use Rattle.ix_closure.proofs.Weighing.FactsOnce.{facts_once}
 use Rattle.ix_closure.proofs.Balancing.RecordedFacts.{recorded_in, recorded_by, recorded_closed}
@@ -65,7 +66,7 @@ module _ (plan : Parts) (state : State) (balanced : IsBalanced plan state) (quie
 
     desc : (s l p : ℕ) → closed.Desc plan s l p → IsRecorded state.banks (fact.Desc s l p)
     desc s l p (closed.begun r _ _ c first) = let b = beside (fact.Called r l) (called r l c) in b.3 (fact.Desc s l l) (b.1.alternatives r l s b.2 first)
-    desc s l p (closed.arrived _ _ k _ h) = let b = beside (fact.Part (sub_of s l k p)) (part s l k p h) in b.3 (fact.Desc s l p) (b.1.parts (sub_of s l k p) b.2)
+    desc s l p (closed.arrived _ _ k _ h) = let b = beside (fact.Part (sub_at s l k p)) (part s l k p h) in b.3 (fact.Desc s l p) (b.1.parts (sub_at s l k p) b.2)
 
     edge : (r k s l : ℕ) → closed.Edge plan r k s l → IsRecorded state.banks (fact.Edge r k s l)
     edge r k s l (closed.waiting _ _ _ after _ mark d next) = recorded (step.Edge r k s l) (waits s l k after r mark (claimed s l k (desc s l k d)) next)
@@ -73,11 +74,11 @@ module _ (plan : Parts) (state : State) (balanced : IsBalanced plan state) (quie
     end : (r l e : ℕ) → closed.End plan r l e → IsRecorded state.banks (fact.End r l e)
     end r l e (closed.ended s _ _ _ d last) = recorded (step.End r l e) (ends s l e r (claimed s l e (desc s l e d)) last)
 
-    part : (s l k e : ℕ) → closed.Part plan s l k e → IsRecorded state.banks (fact.Part (sub_of s l k e))
-    part s l k e (closed.empty r _ _ c first last) = let b = beside (fact.Called r l) (called r l c) in b.3 (fact.Part (sub_of s l l l)) (b.1.empties r l s b.2 first last)
-    part s l k e (closed.scanned q _ _ _ _ x d next t) = recorded (step.Arrive (sub_of s l k e)) (passed q l k s e x (claimed q l k (desc q l k d)) next t)
-    part s l k e (closed.inserted q _ _ _ n d next) = recorded (step.Arrive (sub_of s l k k)) (inserted q l k s n (claimed q l k (desc q l k d)) next)
-    part s l k e (closed.joined r _ q _ _ _ mark a b next) = recorded (step.Arrive (sub_of s l k e)) (meets r k q l e s mark (edge r k q l a) (end r k e b) next)
+    part : (s l k e : ℕ) → closed.Part plan s l k e → IsRecorded state.banks (fact.Part (sub_at s l k e))
+    part s l k e (closed.empty r _ _ c first last) = let b = beside (fact.Called r l) (called r l c) in b.3 (fact.Part (sub_at s l l l)) (b.1.empties r l s b.2 first last)
+    part s l k e (closed.scanned q _ _ _ _ x d next t) = recorded (step.Arrive (sub_at s l k e)) (passed q l k s e x (claimed q l k (desc q l k d)) next t)
+    part s l k e (closed.inserted q _ _ _ n d next) = recorded (step.Arrive (sub_at s l k k)) (inserted q l k s n (claimed q l k (desc q l k d)) next)
+    part s l k e (closed.joined r _ q _ _ _ mark a b next) = recorded (step.Arrive (sub_at s l k e)) (meets r k q l e s mark (edge r k q l a) (end r k e b) next)
 
   -- each fact of the closure is recorded, and so is the claim of each descriptor
   all_recorded : (f : Fact) → IsInClosed plan f → IsRecorded state.banks f

@@ -1,6 +1,7 @@
 -- What a step brings is exactly what becomes due by it.
 use Rattle.std.proofs.Common.{◌≡◌, ℕ, ◌+◌, Bool, true, false, cond, not, List, [], ◌∷◌, ◌++◌, map, Contains, Option, refl, sym, subst, ◌⊎◌, inl, inr}
 use Rattle.std.proofs.lemmas.List.Elements.{Contains-append_left, Contains-append_right, Contains-append_cases}
+use Rattle.ix_model.specs.Closure.Useful.{sub_at}
 use Rattle.ix_model.specs.declared.grammar.Mark.{Mark}
 use Rattle.ix_model.specs.declared.rules.Sym.TheVariants as sy
 use Rattle.ix_model.specs.declared.sub.Sub.{Sub}
@@ -23,7 +24,7 @@ use Rattle.ix_closure.specs.declared.owed.Owed.{Owed}
 use Rattle.ix_closure.specs.declared.owed.Owed.TheVariants.{Claim, Edge, End, Arrive}
 use Rattle.ix_closure.specs.Due.{IsDue, claim, meets}
 use Rattle.ix_closure.specs.Events.{log_after}
-use Rattle.ix_closure.specs.Follows.{fact_of, sub_of, arrival, claims_at, claim_of, FollowsDesc, FollowsClaim, Follows}
+use Rattle.ix_closure.specs.Follows.{fact_of, arrival, claims_at, fresh_claim, FollowsDesc, FollowsClaim, Follows}
 use Rattle.ix_closure.proofs.Lists.ClusterLists.{edges_have, ends_have, edges_from, ends_from}
 use Rattle.ix_closure.proofs.Due.DescriptorSteps.{follows_same, follows_due}
 use Rattle.ix_closure.proofs.Due.DueCauses.{cause_of, edge_next}
@@ -130,13 +131,13 @@ module _ (plan : Parts) (planned : IsPlanned plan) (Mine Before After : Fact →
         old_edge : (r' k' s l : ℕ) → After (fact.Edge r' k' s l) → Before (fact.Edge r' k' s l)
         old_edge r' k' s l h = elim (newly_recorded plan Mine Before After log (End r k e) m (fact.Edge r' k' s l) h) [ inl b ↦ b | inr n ↦ elim n [ inl w ↦ absurd (cc w) | inr b ↦ absurd (beside_can plan log (End r k e) (fact.Edge r' k' s l) b) ] ]
 
-        met : (r' k' s l e' after : ℕ) (mark : Option Mark) → Before (fact.Edge r' k' s l) → fact.End r k e ≡ fact.End r' k' e' → HasNext plan s after (sy.Rule r' mark) → Contains (map (arrival k e) (edges_in log (cluster r k))) (Arrive (sub_of after l k' e'))
+        met : (r' k' s l e' after : ℕ) (mark : Option Mark) → Before (fact.Edge r' k' s l) → fact.End r k e ≡ fact.End r' k' e' → HasNext plan s after (sy.Rule r' mark) → Contains (map (arrival k e) (edges_in log (cluster r k))) (Arrive (sub_at after l k' e'))
         met r' k' s l e' after mark edge w next =
             let here = m.here (fact.Edge r' k' s l) (subst (λ f. Mine (edge_at f s l)) w (mine s l)) edge in
             let in_list = map_has (arrival k' e') (edges_in log (cluster r' k')) (record { slot = s; left = l }) (edges_have (cluster r' k') log (record { slot = s; left = l }) here) in
             let number : s + 1 ≡ after = sym (next_reads plan planned s after (sy.Rule r' mark) next).2 in
-            subst (λ n. Contains (map (arrival k e) (edges_in log (cluster r k))) (Arrive (sub_of n l k' e'))) number
-            (subst (λ f. Contains (joins_of log f) (Arrive (sub_of (s + 1) l k' e'))) (sym w) in_list)
+            subst (λ n. Contains (map (arrival k e) (edges_in log (cluster r k))) (Arrive (sub_at n l k' e'))) number
+            (subst (λ f. Contains (joins_of log f) (Arrive (sub_at (s + 1) l k' e'))) (sym w) in_list)
 
         newly : (x : Owed) → IsNewlyDue plan (λ f. fact.End r k e ≡ f) After x → Contains (map (arrival k e) (edges_in log (cluster r k))) x
         newly x (by_desc a b c w) = absurd (cc)
@@ -164,21 +165,21 @@ module _ (plan : Parts) (planned : IsPlanned plan) (Mine Before After : Fact →
     unfolding claim_alone IsBeside
     arrival_brings more m follows =
         subst (Brings plan Before After (Arrive sub)) (sym follows)
-        (active (Arrive sub) (claim_of (cond (has log (fact.Desc sub.slot sub.left sub.right)) Known Fresh) sub) m
+        (active (Arrive sub) (fresh_claim (cond (has log (fact.Desc sub.slot sub.left sub.right)) Known Fresh) sub) m
         (m.made (fact.Part sub) (put-keeps (put log (fact.Part sub)) (fact.Desc sub.slot sub.left sub.right) (fact.Part sub) (put-there log (fact.Part sub))))
         newly (λ s l p b. claimed s l p (has log (fact.Desc sub.slot sub.left sub.right)) b.0 b.1) (λ x h. causes (has log (fact.Desc sub.slot sub.left sub.right)) x h))
       where
-        claimed : (s l p : ℕ) (b : Bool) → b ≡ false → fact.Desc sub.slot sub.left sub.right ≡ fact.Desc s l p → Contains (claim_of (cond b Known Fresh) sub) (Claim s l p)
+        claimed : (s l p : ℕ) (b : Bool) → b ≡ false → fact.Desc sub.slot sub.left sub.right ≡ fact.Desc s l p → Contains (fresh_claim (cond b Known Fresh) sub) (Claim s l p)
         claimed s l p true w e = absurd (cc)
         claimed s l p false w e = subst (λ f. Contains (claim_alone f) (Claim s l p)) (sym e) (first_has (Claim s l p) [])
 
-        newly : (x : Owed) → IsNewlyDue plan (λ f. fact.Part sub ≡ f) After x → Contains (claim_of (cond (has log (fact.Desc sub.slot sub.left sub.right)) Known Fresh) sub) x
+        newly : (x : Owed) → IsNewlyDue plan (λ f. fact.Part sub ≡ f) After x → Contains (fresh_claim (cond (has log (fact.Desc sub.slot sub.left sub.right)) Known Fresh) sub) x
         newly x (by_desc a b c w) = absurd (cc)
         newly x (by_claim a b c o w f) = absurd (cc)
         newly x (by_edge a b c d e after mark w end next) = absurd (cc)
         newly x (by_end a b c d e after mark edge w next) = absurd (cc)
 
-        causes : (b : Bool) (x : Owed) → Contains (claim_of (cond b Known Fresh) sub) x → IsDue plan After x
+        causes : (b : Bool) (x : Owed) → Contains (fresh_claim (cond b Known Fresh) sub) x → IsDue plan After x
         causes true x h = absurd (none_has x h)
         causes false x h =
             subst (IsDue plan After) (one_has (Claim sub.slot sub.left sub.right) x h)
@@ -214,17 +215,17 @@ module _ (plan : Parts) (planned : IsPlanned plan) (Mine Before After : Fact →
             let q : Claim z k k ≡ Claim s' l' p = (cc) in
             subst (Contains (claims_at k (firsts_of plan r))) q (map_has (λ n. Claim n k k) (firsts_of plan r) z h)
 
-        met : (r' k' s' l' e after : ℕ) (mark : Option Mark) → fact.Edge r k s l ≡ fact.Edge r' k' s' l' → Before (fact.End r' k' e) → HasNext plan s' after (sy.Rule r' mark) → Contains met_ends (Arrive (sub_of after l' k' e))
+        met : (r' k' s' l' e after : ℕ) (mark : Option Mark) → fact.Edge r k s l ≡ fact.Edge r' k' s' l' → Before (fact.End r' k' e) → HasNext plan s' after (sy.Rule r' mark) → Contains met_ends (Arrive (sub_at after l' k' e))
         met r' k' s' l' e after mark w end next =
             let here = m.here (fact.End r' k' e) (subst (λ f. Mine (end_at f e)) w (mine e)) end in
             let in_list = map_has (λ e. arrival k' e (record { slot = s'; left = l' })) (ends_in log (cluster r' k')) e (ends_have (cluster r' k') log e here) in
             let number : s' + 1 ≡ after = sym (next_reads plan planned s' after (sy.Rule r' mark) next).2 in
-            subst (λ n. Contains met_ends (Arrive (sub_of n l' k' e))) number (subst (λ f. Contains (joins_of log f) (Arrive (sub_of (s' + 1) l' k' e))) (sym w) in_list)
+            subst (λ n. Contains met_ends (Arrive (sub_at n l' k' e))) number (subst (λ f. Contains (joins_of log f) (Arrive (sub_at (s' + 1) l' k' e))) (sym w) in_list)
 
         newly : (x : Owed) → IsNewlyDue plan (λ f. fact.Edge r k s l ≡ f) After x → Contains (claims ++ met_ends) x
         newly x (by_desc a b c w) = absurd (cc)
         newly x (by_claim a b c o w f) = absurd (cc)
-        newly x (by_edge r' k' s' l' e after mark w end next) = Contains-append_right claims met_ends (Arrive (sub_of after l' k' e)) (met r' k' s' l' e after mark w (old_end r' k' e end) next)
+        newly x (by_edge r' k' s' l' e after mark w end next) = Contains-append_right claims met_ends (Arrive (sub_at after l' k' e)) (met r' k' s' l' e after mark w (old_end r' k' e end) next)
         newly x (by_end a b c d e after mark edge w next) = absurd (cc)
 
         descs : (s' l' p : ℕ) → IsBeside plan log (Edge r k s l) (fact.Desc s' l' p) → Contains (claims ++ met_ends) (Claim s' l' p)

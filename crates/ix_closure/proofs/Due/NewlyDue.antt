@@ -1,5 +1,6 @@
 -- What becomes due when facts are recorded.
 use Rattle.std.proofs.Common.{ℕ, [], ◌∷◌, Option, ◌⊎◌, inl, inr}
+use Rattle.ix_model.specs.Closure.Useful.{sub_at}
 use Rattle.ix_model.specs.declared.grammar.Mark.{Mark}
 use Rattle.ix_model.specs.declared.rules.Sym.TheVariants as sy
 use Rattle.ix_model.specs.Expansion.Parts.{Parts}
@@ -9,7 +10,7 @@ use Rattle.ix_cluster.specs.declared.fact.Fact.TheVariants as fact
 use Rattle.ix_closure.specs.declared.owed.Owed.{Owed}
 use Rattle.ix_closure.specs.declared.owed.Owed.TheVariants.{Claim, Edge, End, Arrive}
 use Rattle.ix_closure.specs.Due.{IsDue, claim, passed, inserted, waits, ends, meets}
-use Rattle.ix_closure.specs.Follows.{sub_of, FollowsDesc}
+use Rattle.ix_closure.specs.Follows.{FollowsDesc}
 use Rattle.ix_closure.specs.Follows as follows
 
 module _ (plan : Parts) (New After : Fact → Type 0) where
@@ -17,8 +18,8 @@ module _ (plan : Parts) (New After : Fact → Type 0) where
   pub data IsNewlyDue : Owed → Type 0 where
     by_desc : (s l p : ℕ) → New (fact.Desc s l p) → IsNewlyDue (Claim s l p)
     by_claim : (s l p : ℕ) (o : Owed) → New (fact.Claim s l p) → FollowsDesc plan s l p (o ∷ []) → IsNewlyDue o
-    by_edge : (r k s l e after : ℕ) (mark : Option Mark) → New (fact.Edge r k s l) → After (fact.End r k e) → HasNext plan s after (sy.Rule r mark) → IsNewlyDue (Arrive (sub_of after l k e))
-    by_end : (r k s l e after : ℕ) (mark : Option Mark) → After (fact.Edge r k s l) → New (fact.End r k e) → HasNext plan s after (sy.Rule r mark) → IsNewlyDue (Arrive (sub_of after l k e))
+    by_edge : (r k s l e after : ℕ) (mark : Option Mark) → New (fact.Edge r k s l) → After (fact.End r k e) → HasNext plan s after (sy.Rule r mark) → IsNewlyDue (Arrive (sub_at after l k e))
+    by_end : (r k s l e after : ℕ) (mark : Option Mark) → After (fact.Edge r k s l) → New (fact.End r k e) → HasNext plan s after (sy.Rule r mark) → IsNewlyDue (Arrive (sub_at after l k e))
 
 module _ (plan : Parts) (Before After : Fact → Type 0) where
   -- what is due stays due where more is recorded
@@ -35,11 +36,11 @@ module _ (plan : Parts) (Before After : Fact → Type 0) where
   due_split New from o (claim s l p h) = elim (from (fact.Desc s l p) h) [ inl b ↦ inl (claim s l p b) | inr n ↦ inr (by_desc s l p n) ]
   due_split New from o (passed s l p after e x h n t) = elim (from (fact.Claim s l p) h) [
     | inl b ↦ inl (passed s l p after e x b n t)
-    | inr w ↦ inr (by_claim s l p (Arrive (sub_of after l p e)) w (follows.passes x after e n t))
+    | inr w ↦ inr (by_claim s l p (Arrive (sub_at after l p e)) w (follows.passes x after e n t))
   ]
   due_split New from o (inserted s l p after n h next) = elim (from (fact.Claim s l p) h) [
     | inl b ↦ inl (inserted s l p after n b next)
-    | inr w ↦ inr (by_claim s l p (Arrive (sub_of after l p p)) w (follows.inserts n after next))
+    | inr w ↦ inr (by_claim s l p (Arrive (sub_at after l p p)) w (follows.inserts n after next))
   ]
   due_split New from o (waits s l p after r mark h next) = elim (from (fact.Claim s l p) h) [
     | inl b ↦ inl (waits s l p after r mark b next)

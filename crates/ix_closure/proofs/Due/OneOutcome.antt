@@ -50,7 +50,7 @@ module _ (plan : Parts) (planned : IsPlanned plan) where
 -- ---- choices
 
 -- lists with one more element are the same where both parts are
-one_more : {X : Type 0} (xs ys : List X) (x y : X) → xs ++ x ∷ [] ≡ ys ++ y ∷ [] → (xs ≡ ys) × (x ≡ y)
+pub one_more : {X : Type 0} (xs ys : List X) (x y : X) → xs ++ x ∷ [] ≡ ys ++ y ∷ [] → (xs ≡ ys) × (x ≡ y)
 one_more [] [] x y e = (refl, cc e)
 one_more [] (z ∷ ys) x y e = absurd (omega (arith, ap length e, length-append ys (y ∷ [])))
 one_more (z ∷ xs) [] x y e = absurd (omega (arith, ap length e, length-append xs (x ∷ [])))

@@ -1,6 +1,7 @@
 -- A step whose slot is there brings a list of steps, and an owed step can be done.
 use Rattle.std.proofs.Common.{◌≡◌, ℕ, ◌+◌, ◌<◌, ◌≤◌, List, [], ◌∷◌, ◌++◌, Option, None, Some, length, remove, slice_get, slice_set, get_or, take, drop, refl, sym, ◌∙◌, subst, ◌⊎◌, inl, inr, arith}
 use Rattle.std.proofs.lemmas.Option.{slice_get-get_or}
+use Rattle.ix_model.specs.Closure.Useful.{sub_at}
 use Rattle.ix_model.specs.declared.rules.Sym.{Sym}
 use Rattle.ix_model.specs.declared.rules.Sym.TheVariants as sy
 use Rattle.ix_model.specs.declared.rules.Terminal.{Terminal}
@@ -26,7 +27,7 @@ use Rattle.ix_closure.specs.declared.owed.Owed.TheVariants.{Claim, Edge, End, Ar
 use Rattle.ix_closure.specs.Balance.{IsBalanced}
 use Rattle.ix_closure.specs.Due.{IsRecorded}
 use Rattle.ix_closure.specs.Events.{Event, bank_after, home_for}
-use Rattle.ix_closure.specs.Follows.{FollowsDesc, FollowsClaim, Follows, fact_of, sub_of, opened, met_ends, met_edges, claim_of}
+use Rattle.ix_closure.specs.Follows.{FollowsDesc, FollowsClaim, Follows, fact_of, opened, met_ends, met_edges, fresh_claim}
 use Rattle.ix_closure.specs.Laws.{HasMemory}
 use Rattle.ix_closure.specs.Ready.{HasSlot}
 use Rattle.ix_closure.specs.Seen.{State}
@@ -72,9 +73,9 @@ module _ (plan : Parts) (planned : IsPlanned plan) where
       by : (o : Option Sym) → sym_after plan s ≡ o → (more : List Owed) × FollowsDesc plan s l p more
       by None e = (End (info_at plan s).head l p ∷ [], reads_follows plan planned s l p None (End (info_at plan s).head l p ∷ []) h e refl)
       by (Some (sy.Rule r mark)) e = (Edge r p s l ∷ [], reads_follows plan planned s l p (Some (sy.Rule r mark)) (Edge r p s l ∷ []) h e refl)
-      by (Some (sy.Insert n)) e = (Arrive (sub_of (s + 1) l p p) ∷ [], reads_follows plan planned s l p (Some (sy.Insert n)) (Arrive (sub_of (s + 1) l p p) ∷ []) h e refl)
+      by (Some (sy.Insert n)) e = (Arrive (sub_at (s + 1) l p p) ∷ [], reads_follows plan planned s l p (Some (sy.Insert n)) (Arrive (sub_at (s + 1) l p p) ∷ []) h e refl)
       by (Some (sy.Term t shown)) e = elim (matches plan.text (terminal_at plan.rules t) p) [
-        | inl m ↦ (Arrive (sub_of (s + 1) l p m.0) ∷ [], passes_term plan planned s l p t shown (s + 1) m.0 h e there m.1 refl)
+        | inl m ↦ (Arrive (sub_at (s + 1) l p m.0) ∷ [], passes_term plan planned s l p t shown (s + 1) m.0 h e there m.1 refl)
         | inr none ↦ ([], stops_term plan planned s l p t shown h e none)
       ]
         where
@@ -90,7 +91,7 @@ module _ (plan : Parts) (planned : IsPlanned plan) where
   follows_there log (Claim s l p) h = claim_brings (claim_answer log s l p) s l p h
   follows_there log (Edge r k s l) h = (opened plan log r k s l ++ met_ends log r k s l, refl)
   follows_there log (End r k e) h = (met_edges log r k e, refl)
-  follows_there log (Arrive sub) h = (claim_of (arrival_answer log sub) sub, refl)
+  follows_there log (Arrive sub) h = (fresh_claim (arrival_answer log sub) sub, refl)
 
   -- ---- an owed step can be done
 

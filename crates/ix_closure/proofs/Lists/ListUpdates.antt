@@ -2,23 +2,15 @@
 use Rattle.std.proofs.Common.{◌≡◌, ℕ, zero, suc, List, [], ◌∷◌, Some, slice_get, slice_set, refl, sym, ap, ◌∙◌, ◌⊎◌, inl, inr, arith}
 use Rattle.std.proofs.lemmas.List.{set-get_or}
 use Rattle.std.proofs.lemmas.Option.{get_or_from_slice_get}
+use Rattle.ix_cluster.proofs.Elements.{get-set_other}
 
 module _ {X : Type 0} where
   -- an element in its own place
   pub set_same : (xs : List X) (i : ℕ) (x : X) → slice_get xs i ≡ Some x → slice_set xs i x ≡ xs
   set_same xs i x e = ap (slice_set xs i) (sym (get_or_from_slice_get xs i x x e)) ∙ set-get_or xs i x
 
-  pub set_there : (xs : List X) (i : ℕ) (x y : X) → slice_get xs i ≡ Some x → slice_get (slice_set xs i y) i ≡ Some y
-  set_there [] i x y e = absurd (cc)
-  set_there (z ∷ zs) zero x y e = refl
-  set_there (z ∷ zs) (suc i) x y e = set_there zs i x y e
-
   pub set_other : (xs : List X) (i j : ℕ) (y z : X) → (j ≡ i → ⊥) → slice_get xs j ≡ Some z → slice_get (slice_set xs i y) j ≡ Some z
-  set_other [] i j y z n e = absurd (cc)
-  set_other (x ∷ xs) zero zero y z n e = absurd (n refl)
-  set_other (x ∷ xs) zero (suc j) y z n e = e
-  set_other (x ∷ xs) (suc i) zero y z n e = e
-  set_other (x ∷ xs) (suc i) (suc j) y z n e = set_other xs i j y z (λ h. n (ap suc h)) e
+  set_other xs i j y z n e = get-set_other xs i j y (λ h. n (sym h)) ∙ e
 
   pub set_from : (xs : List X) (i j : ℕ) (y z : X) → slice_get (slice_set xs i y) j ≡ Some z → ((j ≡ i) × (y ≡ z)) ⊎ ((j ≡ i → ⊥) × (slice_get xs j ≡ Some z))
   set_from [] zero j y z e = absurd (cc)

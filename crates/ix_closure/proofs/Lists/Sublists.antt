@@ -2,26 +2,22 @@
 use Rattle.std.proofs.Common.{◌≡◌, ℕ, ◌+◌, ◌≤◌, Bool, true, false, cond, if◌then◌else◌, List, [], ◌∷◌, Contains, refl, sym, ap, ◌∙◌, subst, ◌⊎◌, inl, inr, arith, true≢false}
 use Rattle.std.specs.List.{IsDistinct}
 use Rattle.std.proofs.lemmas.Bool.{false_from_ne_true}
-use Rattle.std.proofs.lemmas.Bool.Decides.{nat_tests}
 use Rattle.std.proofs.lemmas.Map.Keys.{IsDistinct-tail}
-use Rattle.ix_cluster.specs.declared.cluster.Cluster.{Cluster}
 use Rattle.ix_cluster.specs.declared.fact.Fact.{Fact}
 use Rattle.ix_cluster.specs.declared.fact.Fact.TheVariants.{Called, Edge, End, Desc, Part, Claim}
 use Rattle.ix_cluster.specs.Facts.{same_fact}
 use Rattle.ix_cluster.specs.Handed.{meets, pair_count}
-use Rattle.ix_cluster.specs.Lists.{cluster, same_cluster}
+use Rattle.ix_cluster.specs.Lists.{cluster}
 use Rattle.ix_cluster.specs.Room.{tally}
 use Rattle.ix_cluster.proofs.FactLemmas.{same_fact-true, same_fact-refl}
 use Rattle.ix_cluster.proofs.Handing.{called-none, desc-none, part-none, claim-none}
+use Rattle.ix_cluster.proofs.ListLemmas.{same_cluster-symm}
 use Rattle.ix_cluster.proofs.Members.{first_has, rest_has, either_has, none_has}
 use Rattle.ix_closure.proofs.Lists.OnceEach.{distinct_apart}
 
-same_cluster_symm : (a b : Cluster) → same_cluster a b ≡ same_cluster b a
-same_cluster_symm a b = grind (arith, nat_tests)
-
 pub meets_symm : (a b : Fact) → meets a b ≡ meets b a
-meets_symm (Edge r k s l) (End r' k' e) = same_cluster_symm (cluster r k) (cluster r' k')
-meets_symm (End r k e) (Edge r' k' s l) = same_cluster_symm (cluster r k) (cluster r' k')
+meets_symm (Edge r k s l) (End r' k' e) = same_cluster-symm (cluster r k) (cluster r' k')
+meets_symm (End r k e) (Edge r' k' s l) = same_cluster-symm (cluster r k) (cluster r' k')
 meets_symm (Called r k) b = sym (called-none r k b)
 meets_symm (Desc s l p) b = sym (desc-none s l p b)
 meets_symm (Part sub) b = sym (part-none sub b)

@@ -1,6 +1,7 @@
 -- The small states of the worked examples: they are balanced and tidy, and end in the closure.
 use Rattle.std.proofs.Common.{◌≡◌, ℕ, ◌+◌, ◌<◌, ◌^◌, zero, suc, [], ◌∷◌, ◌++◌, Some, codes, length, slice_get, subst, refl, inl, inr, arith}
 use Rattle.std.proofs.lemmas.List.Elements.{Contains-append_left, Contains-push_cases}
+use Rattle.ix_model.specs.Closure.Useful.{sub_at}
 use Rattle.ix_model.specs.Expansion.Parts.{Parts}
 use Rattle.ix_model.specs.Expansion.Planned.{IsPlanned}
 use Rattle.ix_examples.specs.SmallPlans.{cycle, nothing, only_a}
@@ -10,7 +11,7 @@ use Rattle.ix_cluster.specs.Banks.{opening, opening_bank}
 use Rattle.ix_cluster.specs.Firsts.{firsts_of}
 use Rattle.ix_cluster.specs.Room.{unclaimed_in}
 use Rattle.ix_cluster.specs.Seen.{Bank}
-use Rattle.ix_cluster.specs.Sound.{IsSound, AreSound}
+use Rattle.ix_cluster.specs.Sound.{IsSoundBank, AreSound}
 use Rattle.ix_cluster.specs.Steps.{after_call}
 use Rattle.ix_cluster.proofs.Soundness.{sound-begin}
 use Rattle.ix_cluster.proofs.SmallBanks.{cycle_planned}
@@ -20,7 +21,7 @@ use Rattle.ix_closure.specs.Balance.{IsBalanced}
 use Rattle.ix_closure.specs.Closure.{IsClosure}
 use Rattle.ix_closure.specs.Due.{FollowsIn}
 use Rattle.ix_closure.specs.Examples.{a_called, alone, cycle_begun, cycle_claimed, nothing_begun, nothing_claimed, nothing_closed, nothing_ended}
-use Rattle.ix_closure.specs.Follows.{claims_at, sub_of}
+use Rattle.ix_closure.specs.Follows.{claims_at}
 use Rattle.ix_closure.specs.Orders.{EveryOrder}
 use Rattle.ix_closure.specs.Runs.{rests, goes_on}
 use Rattle.ix_closure.specs.Seen.{State}
@@ -30,11 +31,11 @@ use Rattle.ix_closure.proofs.Small.SmallEvents.{cycle_is_claimed, first_goes_on,
 use Rattle.ix_closure.proofs.Small.SmallSteps.{a_passes, b_stops, nothing_planned}
 
 -- one sound bank
-pub one_sound : (plan : Parts) (bank : Bank) → IsSound plan 1 0 bank → AreSound plan (bank ∷ [])
+pub one_sound : (plan : Parts) (bank : Bank) → IsSoundBank plan 1 0 bank → AreSound plan (bank ∷ [])
 one_sound plan bank sound = record { some = omega arith; few = omega arith; each = each }
   where
-    each : (m : ℕ) (b : Bank) → slice_get (bank ∷ []) m ≡ Some b → IsSound plan 1 m b
-    each zero b e = let same : bank ≡ b = cc e in subst (IsSound plan 1 0) same sound
+    each : (m : ℕ) (b : Bank) → slice_get (bank ∷ []) m ≡ Some b → IsSoundBank plan 1 m b
+    each zero b e = let same : bank ≡ b = cc e in subst (IsSoundBank plan 1 0) same sound
     each (suc m) b e = absurd (cc e)
 
 -- the opening, where its one bank is not longer than memory
@@ -79,10 +80,10 @@ cycle_claimed_tidy = cycle_every_order.tidy (0 ∷ []) (cycle_claimed (Claim 2 0
 abbrev a_begun : State
 a_begun = alone a_called 0 (Claim 0 0 0 ∷ [])
 
-pub a_claimed_tidy : IsTidy (only_a (codes "a")) (alone (a_called ++ fact.Claim 0 0 0 ∷ []) 0 (Arrive (sub_of 1 0 0 1) ∷ []))
+pub a_claimed_tidy : IsTidy (only_a (codes "a")) (alone (a_called ++ fact.Claim 0 0 0 ∷ []) 0 (Arrive (sub_at 1 0 0 1) ∷ []))
 a_claimed_tidy =
-    (opening_order (only_a (codes "a")) planned_a (omega arith)).tidy (0 ∷ []) (alone (a_called ++ fact.Claim 0 0 0 ∷ []) 0 (Arrive (sub_of 1 0 0 1) ∷ []))
-    (first_goes_on (only_a (codes "a")) a_begun [] a_called 0 (Claim 0 0 0) [] (Arrive (sub_of 1 0 0 1) ∷ []) rests refl a_passes (omega arith))
+    (opening_order (only_a (codes "a")) planned_a (omega arith)).tidy (0 ∷ []) (alone (a_called ++ fact.Claim 0 0 0 ∷ []) 0 (Arrive (sub_at 1 0 0 1) ∷ []))
+    (first_goes_on (only_a (codes "a")) a_begun [] a_called 0 (Claim 0 0 0) [] (Arrive (sub_at 1 0 0 1) ∷ []) rests refl a_passes (omega arith))
 
 -- on `b` the letter is not passed
 pub b_closure : IsClosure (only_a (codes "b")) (a_called ++ fact.Claim 0 0 0 ∷ [])

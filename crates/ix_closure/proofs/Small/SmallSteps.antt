@@ -1,5 +1,6 @@
 -- What the first descriptors of the small plans of the worked examples bring.
 use Rattle.std.proofs.Common.{rules, ℕ, true, [], ◌∷◌, codes, ap, refl, arith}
+use Rattle.ix_model.specs.Closure.Useful.{sub_at}
 use Rattle.ix_model.specs.declared.rules.Sym.TheVariants as sy
 use Rattle.ix_model.specs.Expansion.Planned.{IsPlanned}
 use Rattle.ix_model.specs.Expansion.FlatDerives.{IsTerminal}
@@ -8,7 +9,7 @@ use Rattle.ix_examples.specs.SmallPlans.{call, literal, cycle, insertion, nothin
 use Rattle.ix_examples.proofs.SmallPlans.{literal_stands}
 use Rattle.ix_examples.proofs.SmallTexts.{first}
 use Rattle.ix_closure.specs.declared.owed.Owed.TheVariants.{Edge, End, Arrive}
-use Rattle.ix_closure.specs.Follows.{FollowsDesc, passes, stops, inserts, calls, ends, sub_of}
+use Rattle.ix_closure.specs.Follows.{FollowsDesc, passes, stops, inserts, calls, ends}
 
 -- ---- S: "a".
 
@@ -18,7 +19,7 @@ next_0_a = (0, 0, 0, _, refl, refl, (_, _, refl, refl, refl), refl)
 pub a_stands : IsTerminal (only_a (codes "a")) (literal 0) 0 1
 a_stands = (0, true, _, refl, refl, (refl, omega arith, refl))
 
-pub a_passes : FollowsDesc (only_a (codes "a")) 0 0 0 (Arrive (sub_of 1 0 0 1) ∷ [])
+pub a_passes : FollowsDesc (only_a (codes "a")) 0 0 0 (Arrive (sub_at 1 0 0 1) ∷ [])
 a_passes = passes (literal 0) 1 1 next_0_a a_stands
 
 -- on `b`
@@ -33,7 +34,7 @@ b_stops = stops 0 true 1 (0, 0, 0, _, refl, refl, (_, _, refl, refl, refl), refl
 pub next_0_x : HasNext (insertion (codes "x")) 0 1 (sy.Insert 0)
 next_0_x = (0, 0, 0, _, refl, refl, (_, _, refl, refl, refl), refl)
 
-pub insertion_passes : FollowsDesc (insertion (codes "x")) 0 0 0 (Arrive (sub_of 1 0 0 0) ∷ [])
+pub insertion_passes : FollowsDesc (insertion (codes "x")) 0 0 0 (Arrive (sub_at 1 0 0 0) ∷ [])
 insertion_passes = inserts 0 1 next_0_x
 
 -- ---- S: S; "a".

@@ -1,5 +1,6 @@
 -- Small states that are balanced though something is recorded without what it comes from.
 use Rattle.std.proofs.Common.{rules, ◌≡◌, Some, ◌∙◌, ℕ, ◌+◌, ◌<◌, ◌^◌, [], ◌∷◌, ◌++◌, Contains, None, codes, length, refl, sym, subst, arith}
+use Rattle.ix_model.specs.Closure.Useful.{sub_at}
 use Rattle.ix_model.specs.Closure.Closed as closed
 use Rattle.ix_model.specs.Expansion.Parts.{Parts}
 use Rattle.ix_examples.specs.SmallPlans.{cycle, only_a, two_halves}
@@ -14,7 +15,7 @@ use Rattle.ix_cluster.specs.Facts.{put}
 use Rattle.ix_cluster.specs.Homes.{home}
 use Rattle.ix_cluster.specs.Room.{unclaimed_in}
 use Rattle.ix_cluster.specs.Seen.{Bank}
-use Rattle.ix_cluster.specs.Sound.{IsSound}
+use Rattle.ix_cluster.specs.Sound.{IsSoundBank}
 use Rattle.ix_cluster.proofs.Handing.{desc-none, handed-put_other}
 use Rattle.ix_cluster.proofs.Members.{put-keeps}
 use Rattle.ix_cluster.proofs.SmallBanks.{begins_sound, cycle_planned, first_begins}
@@ -24,14 +25,14 @@ use Rattle.ix_closure.specs.declared.owed.Owed.TheVariants.{Claim}
 use Rattle.ix_closure.specs.Balance.{IsBalanced}
 use Rattle.ix_closure.specs.Due.{IsRecorded, FollowsIn, claim, passed, inserted, waits, ends, meets}
 use Rattle.ix_closure.specs.Examples.{a_called, alone, cycle_called}
-use Rattle.ix_closure.specs.Follows.{claim_for, claims_for, sub_of}
+use Rattle.ix_closure.specs.Follows.{claim_for, claims_for}
 use Rattle.ix_closure.proofs.Lists.ListMembers.{filter_from, filter_has}
 use Rattle.ix_closure.proofs.Small.SmallStates.{one_sound}
 use Rattle.ix_closure.proofs.Small.SmallSteps.{next_0_c}
 
 -- ---- a bank without claims and ends, where each descriptor is to be claimed
 
-module _ (plan : Parts) (bank : Bank) (sound : IsSound plan 1 0 bank) (unclaimed : (s l p : ℕ) → IsRecorded (bank ∷ []) (fact.Claim s l p) → ⊥) (no_end : (r k e : ℕ) → IsRecorded (bank ∷ []) (fact.End r k e) → ⊥) where
+module _ (plan : Parts) (bank : Bank) (sound : IsSoundBank plan 1 0 bank) (unclaimed : (s l p : ℕ) → IsRecorded (bank ∷ []) (fact.Claim s l p) → ⊥) (no_end : (r k e : ℕ) → IsRecorded (bank ∷ []) (fact.End r k e) → ⊥) where
   missing_owed : (step : Owed) → FollowsIn plan (bank ∷ []) step → Contains (claims_for (facts_of (bank ∷ []))) step
   missing_owed step (claim s l p h) = filter_has claim_for (facts_of (bank ∷ [])) (fact.Desc s l p) (Claim s l p) h refl
   missing_owed step (passed s l p after e x h next t) = absurd (unclaimed s l p h)
@@ -55,7 +56,7 @@ module _ (plan : Parts) (bank : Bank) (sound : IsSound plan 1 0 bank) (unclaimed
   }
 
 -- a descriptor of the closure leaves a bank sound
-sound_desc : (plan : Parts) (old : Bank) (s l p : ℕ) → closed.Desc plan s l p → home (info_at plan s).head l 1 ≡ 0 → length (put old.log (fact.Desc s l p)) + unclaimed_in (put old.log (fact.Desc s l p)) < 2 ^ 57 → IsSound plan 1 0 old → IsSound plan 1 0 (record { log = put old.log (fact.Desc s l p); handed = old.handed })
+sound_desc : (plan : Parts) (old : Bank) (s l p : ℕ) → closed.Desc plan s l p → home (info_at plan s).head l 1 ≡ 0 → length (put old.log (fact.Desc s l p)) + unclaimed_in (put old.log (fact.Desc s l p)) < 2 ^ 57 → IsSoundBank plan 1 0 old → IsSoundBank plan 1 0 (record { log = put old.log (fact.Desc s l p); handed = old.handed })
 sound_desc plan old s l p desc here bounded sound =
     let good =
     good-put plan 1 0 old.log (fact.Desc s l p) (record { at_home = here; closed = desc; later = λ s' l' p' e. absurd (cc e) })
@@ -72,7 +73,7 @@ sound_desc plan old s l p desc here bounded sound =
 
 -- ---- S: S; "a".   an edge whose descriptor is not claimed
 
-edge_sound : IsSound (cycle []) 1 0 (record { log = cycle_called ++ fact.Edge 0 0 0 0 ∷ []; handed = 0 })
+edge_sound : IsSoundBank (cycle []) 1 0 (record { log = cycle_called ++ fact.Edge 0 0 0 0 ∷ []; handed = 0 })
 edge_sound =
     sound-edge (cycle []) 1 0 cycle_planned (opening_bank (cycle []) 1 0) (record { log = cycle_called ++ fact.Edge 0 0 0 0 ∷ []; handed = 0 }) 0 0 0 0 [] (omega arith) refl refl refl (omega arith) refl
     (closed.waiting 0 0 0 1 0 None (closed.begun 0 0 0 closed.start first_begins) next_0_c) begins_sound
@@ -82,15 +83,15 @@ edge_balanced = claims_balanced (cycle []) (record { log = cycle_called ++ fact.
 
 -- ---- S: "a".
 
-a_sound : IsSound (only_a (codes "a")) 1 0 (record { log = a_called; handed = 0 })
+a_sound : IsSoundBank (only_a (codes "a")) 1 0 (record { log = a_called; handed = 0 })
 a_sound = sound-begin (only_a (codes "a")) 1 0 planned_a refl (omega arith)
 
 -- a subtree that no step leads to
-subtree_sound : IsSound (only_a (codes "a")) 1 0 (record { log = a_called ++ fact.Part (sub_of 1 0 0 1) ∷ fact.Desc 1 0 1 ∷ []; handed = 0 })
-subtree_sound = sound-arrival (only_a (codes "a")) 1 0 (record { log = a_called; handed = 0 }) (record { log = a_called ++ fact.Part (sub_of 1 0 0 1) ∷ fact.Desc 1 0 1 ∷ []; handed = 0 }) (sub_of 1 0 0 1) refl refl (omega arith) refl part_1 a_sound
+subtree_sound : IsSoundBank (only_a (codes "a")) 1 0 (record { log = a_called ++ fact.Part (sub_at 1 0 0 1) ∷ fact.Desc 1 0 1 ∷ []; handed = 0 })
+subtree_sound = sound-arrival (only_a (codes "a")) 1 0 (record { log = a_called; handed = 0 }) (record { log = a_called ++ fact.Part (sub_at 1 0 0 1) ∷ fact.Desc 1 0 1 ∷ []; handed = 0 }) (sub_at 1 0 0 1) refl refl (omega arith) refl part_1 a_sound
 
-pub subtree_balanced : IsBalanced (only_a (codes "a")) (alone (a_called ++ fact.Part (sub_of 1 0 0 1) ∷ fact.Desc 1 0 1 ∷ []) 0 (Claim 0 0 0 ∷ Claim 1 0 1 ∷ []))
-subtree_balanced = claims_balanced (only_a (codes "a")) (record { log = a_called ++ fact.Part (sub_of 1 0 0 1) ∷ fact.Desc 1 0 1 ∷ []; handed = 0 }) subtree_sound (search rules) (search rules)
+pub subtree_balanced : IsBalanced (only_a (codes "a")) (alone (a_called ++ fact.Part (sub_at 1 0 0 1) ∷ fact.Desc 1 0 1 ∷ []) 0 (Claim 0 0 0 ∷ Claim 1 0 1 ∷ []))
+subtree_balanced = claims_balanced (only_a (codes "a")) (record { log = a_called ++ fact.Part (sub_at 1 0 0 1) ∷ fact.Desc 1 0 1 ∷ []; handed = 0 }) subtree_sound (search rules) (search rules)
 
 -- a descriptor without its subtree
 pub descriptor_balanced : IsBalanced (only_a (codes "a")) (alone (a_called ++ fact.Desc 1 0 1 ∷ []) 0 (Claim 0 0 0 ∷ Claim 1 0 1 ∷ []))

@@ -12,7 +12,7 @@ use Rattle.ix_closure.specs.declared.owed.Owed.{Owed}
 use Rattle.ix_closure.specs.declared.owed.Owed.TheVariants.{Claim, End, Arrive}
 use Rattle.ix_closure.specs.Balance.{IsBalanced}
 use Rattle.ix_closure.specs.Due.{IsRecorded}
-use Rattle.ix_closure.specs.Follows.{claim_of}
+use Rattle.ix_closure.specs.Follows.{fresh_claim}
 use Rattle.ix_closure.specs.Seen.{State}
 use Rattle.ix_closure.specs.Tidy.{IsTidy}
 use Rattle.ix_closure.proofs.Due.DueCauses.{arrival_not_first}
@@ -44,7 +44,7 @@ module _ (plan : Parts) (planned : IsPlanned plan) (old new : State) (n : ℕ) (
   brought : (x : Owed) → IsSingle x → Contains more x → IsBroughtOnce old more x
   brought x single c = by (has log (fact.Desc sub.slot sub.left sub.right)) refl done.follows
     where
-      by : (b : Bool) → has log (fact.Desc sub.slot sub.left sub.right) ≡ b → more ≡ claim_of (cond b Known Fresh) sub → IsBroughtOnce old more x
+      by : (b : Bool) → has log (fact.Desc sub.slot sub.left sub.right) ≡ b → more ≡ fresh_claim (cond b Known Fresh) sub → IsBroughtOnce old more x
       by true e w = absurd (none_has x (subst (λ steps. Contains steps x) w c))
       by false e w = subst (λ steps. IsBroughtOnce old steps x) (sym w) (brought_alone old (Claim sub.slot sub.left sub.right) x (claim_new e) (subst (λ steps. Contains steps x) w c))
 
@@ -52,7 +52,7 @@ module _ (plan : Parts) (planned : IsPlanned plan) (old new : State) (n : ℕ) (
   no_end : (r k e : ℕ) → ¬ (Contains more (End r k e))
   no_end r k e c = by (has log (fact.Desc sub.slot sub.left sub.right)) done.follows
     where
-      by : (b : Bool) → more ≡ claim_of (cond b Known Fresh) sub → ⊥
+      by : (b : Bool) → more ≡ fresh_claim (cond b Known Fresh) sub → ⊥
       by true w = none_has (End r k e) (subst (λ steps. Contains steps (End r k e)) w c)
       by false w = let same = one_has (Claim sub.slot sub.left sub.right) (End r k e) (subst (λ steps. Contains steps (End r k e)) w c) in cc
 

@@ -1,5 +1,6 @@
 -- A state is tidy where each recorded fact has its cause and each owed step its number.
 use Rattle.std.proofs.Common.{◌≡◌, ℕ, ◌≤◌, List, [], ◌∷◌, Contains, refl, sym, ◌∙◌, subst, ◌⊎◌, inl, inr}
+use Rattle.ix_model.specs.Closure.Useful.{sub_at}
 use Rattle.ix_model.specs.Expansion.Parts.{Parts}
 use Rattle.ix_model.specs.Expansion.Planned.{IsPlanned}
 use Rattle.ix_model.specs.Expansion.SlotPlaces.{IsFirst}
@@ -15,7 +16,7 @@ use Rattle.ix_closure.specs.declared.owed.Owed.{Owed}
 use Rattle.ix_closure.specs.declared.owed.Owed.TheVariants.{Claim, Edge, End, Arrive}
 use Rattle.ix_closure.specs.Balance.{IsBalanced}
 use Rattle.ix_closure.specs.Due.{IsRecorded, FollowsIn}
-use Rattle.ix_closure.specs.Follows.{fact_of, sub_of}
+use Rattle.ix_closure.specs.Follows.{fact_of}
 use Rattle.ix_closure.specs.Quantity.{times, givers}
 use Rattle.ix_closure.specs.Seen.{State}
 use Rattle.ix_closure.specs.Tidy.{IsTidy, IsEmptyOfCalled, IsOwedOnce}
@@ -26,7 +27,7 @@ use Rattle.ix_closure.proofs.Tidying.OwedTimes.{times_one}
 -- what must be recorded for the fact to be recorded
 abbrev pub HasCause : Parts → State → Fact → Type 0
 HasCause plan state (fact.Desc s l p) =
-    ((r : ℕ) → IsFirst plan s r → IsRecorded state.banks (fact.Called r l)) × (((r : ℕ) → ¬ (IsFirst plan s r)) → (k : ℕ) × IsRecorded state.banks (fact.Part (sub_of s l k p)))
+    ((r : ℕ) → IsFirst plan s r → IsRecorded state.banks (fact.Called r l)) × (((r : ℕ) → ¬ (IsFirst plan s r)) → (k : ℕ) × IsRecorded state.banks (fact.Part (sub_at s l k p)))
 HasCause plan state (fact.Edge r k s l) = IsRecorded state.banks (fact.Claim s l k)
 HasCause plan state (fact.Part sub) = IsEmptyOfCalled plan state sub ⊎ FollowsIn plan state.banks (Arrive sub)
 HasCause plan state _ = Unit {0}
@@ -84,7 +85,7 @@ module _ (plan : Parts) (state : State) where
 pub cause_grows : (plan : Parts) (old new : State) → ((f : Fact) → IsRecorded old.banks f → IsRecorded new.banks f) → (f : Fact) → HasCause plan old f → HasCause plan new f
 cause_grows plan old new grows (fact.Desc s l p) h = (
   (λ r first. grows (fact.Called r l) (h.0 r first)),
-  (λ other. let p' = h.1 other in (p'.0, grows (fact.Part (sub_of s l p'.0 p)) p'.1)),
+  (λ other. let p' = h.1 other in (p'.0, grows (fact.Part (sub_at s l p'.0 p)) p'.1)),
 )
 cause_grows plan old new grows (fact.Edge r k s l) h = grows (fact.Claim s l k) h
 cause_grows plan old new grows (fact.Part sub) h = elim h [

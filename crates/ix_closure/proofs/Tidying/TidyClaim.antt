@@ -1,6 +1,7 @@
 -- A claim keeps a state tidy.
 use Rattle.std.proofs.Common.{◌≡◌, ℕ, ◌+◌, ◌≤◌, Bool, true, false, cond, List, [], ◌∷◌, ◌++◌, count_by, Contains, refl, sym, ap, ◌∙◌, subst, ◌⊎◌, inl, inr, arith}
 use Rattle.std.proofs.lemmas.Bool.Decides.{nat_tests}
+use Rattle.ix_model.specs.Closure.Useful.{sub_at}
 use Rattle.ix_model.specs.declared.rules.Sym.TheVariants as sy
 use Rattle.ix_model.specs.Expansion.Parts.{Parts}
 use Rattle.ix_model.specs.Expansion.Planned.{IsPlanned}
@@ -18,7 +19,7 @@ use Rattle.ix_closure.specs.declared.owed.Owed.TheVariants.{Claim, Edge, End, Ar
 use Rattle.ix_closure.specs.Balance.{IsBalanced}
 use Rattle.ix_closure.specs.Due.{IsRecorded}
 use Rattle.ix_closure.specs.Events.{log_after}
-use Rattle.ix_closure.specs.Follows.{sub_of, FollowsDesc, FollowsClaim, passes, stops, inserts, calls, ends}
+use Rattle.ix_closure.specs.Follows.{FollowsDesc, FollowsClaim, passes, stops, inserts, calls, ends}
 use Rattle.ix_closure.specs.Quantity.{same_step, times, givers, gives}
 use Rattle.ix_closure.specs.Seen.{State}
 use Rattle.ix_closure.specs.Tidy.{IsTidy}
@@ -55,10 +56,10 @@ module _ (plan : Parts) (planned : IsPlanned plan) (old new : State) (n : ℕ) (
   -- what the claim brings is owed once, and was not known
   brought : (steps : List Owed) → FollowsDesc plan s l p steps → (x : Owed) → IsSingle x → Contains steps x → IsBroughtOnce old steps x
   brought steps (passes x after e next t) o single c =
-      brought_alone old (Arrive (sub_of after l p e)) o (λ known. unclaimed (subst (ArrivesBy plan planned (IsRecorded old.banks) s l p e) t.3 (arrival_known plan planned old tidy (sub_of after l p e) known s x next))) c
+      brought_alone old (Arrive (sub_at after l p e)) o (λ known. unclaimed (subst (ArrivesBy plan planned (IsRecorded old.banks) s l p e) t.3 (arrival_known plan planned old tidy (sub_at after l p e) known s x next))) c
   brought steps (stops t shown after next none) o single c = absurd (none_has o c)
   brought steps (inserts m after next) o single c =
-      brought_alone old (Arrive (sub_of after l p p)) o (λ known. unclaimed (arrival_known plan planned old tidy (sub_of after l p p) known s (sy.Insert m) next)) c
+      brought_alone old (Arrive (sub_at after l p p)) o (λ known. unclaimed (arrival_known plan planned old tidy (sub_at after l p p) known s (sy.Insert m) next)) c
   brought steps (calls r after mark next) o single c = brought_alone old (Edge r p s l) o (λ known. unclaimed (edge_known plan planned old tidy r p s l known)) c
   brought steps (ends r last) o single c = absurd (subst IsSingle (sym (one_has (End r l p) o c)) single)
 

@@ -1,6 +1,7 @@
 -- An edge keeps a state tidy.
 use Rattle.std.proofs.Common.{◌≡◌, ℕ, ◌+◌, Bool, true, false, cond, not, List, [], ◌++◌, map, Contains, refl, sym, ap, ◌∙◌, subst, inl, inr, arith}
 use Rattle.std.proofs.lemmas.List.Elements.{Contains-append_cases}
+use Rattle.ix_model.specs.Closure.Useful.{sub_at}
 use Rattle.ix_model.specs.declared.rules.Sym.TheVariants as sy
 use Rattle.ix_model.specs.declared.sub.Sub.{Sub}
 use Rattle.ix_model.specs.Expansion.Parts.{Parts}
@@ -17,7 +18,7 @@ use Rattle.ix_closure.specs.declared.owed.Owed.{Owed}
 use Rattle.ix_closure.specs.declared.owed.Owed.TheVariants.{Claim, Edge, End}
 use Rattle.ix_closure.specs.Balance.{IsBalanced}
 use Rattle.ix_closure.specs.Due.{IsRecorded}
-use Rattle.ix_closure.specs.Follows.{sub_of, arrival, claims_at}
+use Rattle.ix_closure.specs.Follows.{arrival, claims_at}
 use Rattle.ix_closure.specs.Quantity.{times}
 use Rattle.ix_closure.specs.Seen.{State}
 use Rattle.ix_closure.specs.Tidy.{IsTidy}
@@ -101,7 +102,7 @@ module _ (plan : Parts) (planned : IsPlanned plan) (old new : State) (n : ℕ) (
   arrival_new : (e : ℕ) → ¬ (IsKnown old (behind e))
   arrival_new e known =
       let next = edge_next plan planned r k s l done.closed in
-      unmet (arrival_known plan planned old tidy (sub_of (s + 1) l k e) known s (sy.Rule r next.0) next.1).0
+      unmet (arrival_known plan planned old tidy (sub_at (s + 1) l k e) known s (sy.Rule r next.0) next.1).0
 
   -- no claim is an arrival
   not_both : (x : Owed) → Contains claims x → Contains met x → ⊥
@@ -112,7 +113,7 @@ module _ (plan : Parts) (planned : IsPlanned plan) (old new : State) (n : ℕ) (
 
   -- ends with one arrival are the same
   same_end : (a b : ℕ) → behind a ≡ behind b → a ≡ b
-  same_end a b h = let same : sub_of (s + 1) l k a ≡ sub_of (s + 1) l k b = cc in ap (λ (u : Sub). u.right) same
+  same_end a b h = let same : sub_at (s + 1) l k a ≡ sub_at (s + 1) l k b = cc in ap (λ (u : Sub). u.right) same
 
   times_more : (x : Owed) → times more x ≡ times claims x + times met x
   times_more x = ap (λ steps. times steps x) brings ∙ times_append claims met x

@@ -1,5 +1,6 @@
 -- An end keeps a state tidy.
 use Rattle.std.proofs.Common.{◌≡◌, ℕ, ◌+◌, Bool, true, false, cond, List, [], map, Contains, refl, sym, ap, ◌∙◌, subst, arith}
+use Rattle.ix_model.specs.Closure.Useful.{sub_at}
 use Rattle.ix_model.specs.declared.rules.Sym.TheVariants as sy
 use Rattle.ix_model.specs.declared.sub.Sub.{Sub}
 use Rattle.ix_model.specs.Expansion.Parts.{Parts}
@@ -14,7 +15,7 @@ use Rattle.ix_cluster.proofs.Members.{none_has}
 use Rattle.ix_closure.specs.declared.owed.Owed.{Owed}
 use Rattle.ix_closure.specs.declared.owed.Owed.TheVariants.{End}
 use Rattle.ix_closure.specs.Balance.{IsBalanced}
-use Rattle.ix_closure.specs.Follows.{sub_of, arrival}
+use Rattle.ix_closure.specs.Follows.{arrival}
 use Rattle.ix_closure.specs.Quantity.{times}
 use Rattle.ix_closure.specs.Seen.{State}
 use Rattle.ix_closure.specs.Tidy.{IsTidy}
@@ -32,7 +33,7 @@ use Rattle.ix_closure.proofs.Tidying.TidyStep.{IsDone, tidy_after, ends_kept}
 -- edges with one arrival are the same
 same_arrival : (k e : ℕ) (a b : Arc) → arrival k e a ≡ arrival k e b → a ≡ b
 same_arrival k e a b h =
-    let same : sub_of (a.slot + 1) a.left k e ≡ sub_of (b.slot + 1) b.left k e = cc in
+    let same : sub_at (a.slot + 1) a.left k e ≡ sub_at (b.slot + 1) b.left k e = cc in
     let slot : a.slot ≡ b.slot = omega (arith, ap (λ (u : Sub). u.slot) same) in
     let left : a.left ≡ b.left = ap (λ (u : Sub). u.left) same in
     subst (λ (l : ℕ). a ≡ record { slot = b.slot; left = l }) left (subst (λ (s : ℕ). a ≡ record { slot = s; left = a.left }) slot refl)
@@ -44,7 +45,7 @@ module _ (plan : Parts) (planned : IsPlanned plan) (old new : State) (n : ℕ) (
   arrival_new fresh a c known =
       let next = edge_next plan planned r k a.slot a.left (recorded_closed plan old.banks tidy.balanced.sound (fact.Edge r k a.slot a.left) (done.moves.back (fact.Edge r k a.slot a.left) (edges_from (cluster r k) log a c))) in
       has_none log (fact.End r k e) fresh
-      (done.moves.here (fact.End r k e) refl (arrival_known plan planned old tidy (sub_of (a.slot + 1) a.left k e) known a.slot (sy.Rule r next.0) next.1).1)
+      (done.moves.here (fact.End r k e) refl (arrival_known plan planned old tidy (sub_at (a.slot + 1) a.left k e) known a.slot (sy.Rule r next.0) next.1).1)
 
   -- what it brings is owed once, and was not known
   brought : (x : Owed) → IsSingle x → Contains more x → IsBroughtOnce old more x

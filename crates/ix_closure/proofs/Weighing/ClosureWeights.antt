@@ -10,12 +10,12 @@ use Rattle.ix_cluster.specs.Facts.{same_fact}
 use Rattle.ix_cluster.specs.Seen.{Bank}
 use Rattle.ix_cluster.specs.Sound.{AreSound}
 use Rattle.ix_closure.specs.Closure.{IsClosure}
-use Rattle.ix_closure.specs.Quantity.{step_bound}
+use Rattle.ix_closure.specs.Quantity.{is_claim, weight, step_bound}
 use Rattle.ix_closure.proofs.Weighing.FactsOnce.{facts_once}
 use Rattle.ix_closure.proofs.Weighing.LogCounts.{tallied}
 use Rattle.ix_closure.proofs.Balancing.RecordedFacts.{recorded_closed}
 use Rattle.ix_closure.proofs.Lists.Sublists.{fewer, fewer_by, fewer_pairs}
-use Rattle.ix_closure.proofs.Weighing.Weights.{is_claim, weight, weight_in, weight_of_facts}
+use Rattle.ix_closure.proofs.Weighing.Weights.{weight_in, weight_of_facts}
 
 -- the descriptor that a claim is of
 descriptor_fact : Fact → Fact

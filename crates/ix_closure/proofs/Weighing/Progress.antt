@@ -17,7 +17,7 @@ use Rattle.ix_cluster.proofs.Listing.{has-put_other, has-call_edge}
 use Rattle.ix_closure.specs.declared.owed.Owed.{Owed}
 use Rattle.ix_closure.specs.declared.owed.Owed.TheVariants.{Claim, Edge, End, Arrive}
 use Rattle.ix_closure.specs.Events.{Event, log_after, bank_after, home_for}
-use Rattle.ix_closure.specs.Follows.{arrival, claims_at, claim_of, FollowsClaim, Follows}
+use Rattle.ix_closure.specs.Follows.{arrival, claims_at, fresh_claim, FollowsClaim, Follows}
 use Rattle.ix_closure.specs.Seen.{State}
 use Rattle.ix_closure.proofs.Lists.ListCounts.{count_all}
 use Rattle.ix_closure.proofs.Weighing.LogCounts.{count_put, count_put_new, count_call, count_after, count_set}
@@ -55,7 +55,7 @@ progress plan log (End r k e) more follows = by (has log (fact.End r k e)) refl 
     by false w f = inl (put_one_longer log (fact.End r k e) w)
 progress plan log (Arrive sub) more follows = by (has log (fact.Desc sub.slot sub.left sub.right)) refl follows
   where
-    by : (b : Bool) → has log (fact.Desc sub.slot sub.left sub.right) ≡ b → more ≡ claim_of (cond b Known Fresh) sub → (length log + 1 ≤ length (put (put log (fact.Part sub)) (fact.Desc sub.slot sub.left sub.right))) ⊎ (more ≡ [])
+    by : (b : Bool) → has log (fact.Desc sub.slot sub.left sub.right) ≡ b → more ≡ fresh_claim (cond b Known Fresh) sub → (length log + 1 ≤ length (put (put log (fact.Part sub)) (fact.Desc sub.slot sub.left sub.right))) ⊎ (more ≡ [])
     by true w f = inr f
     by false w f =
         inl (omega (arith, put_longer log (fact.Part sub), put_one_longer (put log (fact.Part sub)) (fact.Desc sub.slot sub.left sub.right) (has-put_other log (fact.Part sub) (fact.Desc sub.slot sub.left sub.right) refl ∙ w)))

@@ -21,12 +21,12 @@ use Rattle.ix_cluster.proofs.Members.{first_has, rest_has}
 use Rattle.ix_closure.specs.declared.owed.Owed.{Owed}
 use Rattle.ix_closure.specs.declared.owed.Owed.TheVariants.{Claim, Edge, End, Arrive}
 use Rattle.ix_closure.specs.Events.{log_after}
-use Rattle.ix_closure.specs.Follows.{Follows, FollowsClaim, arrival, claims_at, opened, met_ends, met_edges, claim_of}
+use Rattle.ix_closure.specs.Follows.{Follows, FollowsClaim, arrival, claims_at, opened, met_ends, met_edges, fresh_claim}
 use Rattle.ix_closure.proofs.Due.DescriptorSteps.{follows_few}
 use Rattle.ix_closure.proofs.Due.FirstSlots.{firsts_once}
 use Rattle.ix_closure.proofs.Weighing.LogCounts.{count_put, count_put_new, count_call}
 use Rattle.ix_closure.proofs.Lists.OnceEach.{IsOnceEach}
-use Rattle.ix_closure.proofs.Weighing.Weights.{is_claim, weight}
+use Rattle.ix_closure.specs.Quantity.{is_claim, weight}
 
 -- ---- a call
 
@@ -91,13 +91,13 @@ module _ (plan : Parts) (planned : IsPlanned plan) (log : List Fact) (fresh : Is
             handed-put_other log (fact.Claim s l p) (claim-none s l p),
           )
 
-  arrival_paid : (sub : Sub) (more : List Owed) → more ≡ claim_of (arrival_answer log sub) sub → length more + weight log ≤ weight (after_arrival log sub)
+  arrival_paid : (sub : Sub) (more : List Owed) → more ≡ fresh_claim (arrival_answer log sub) sub → length more + weight log ≤ weight (after_arrival log sub)
   arrival_paid sub more follows = by (has log (fact.Desc sub.slot sub.left sub.right)) refl follows
     where
       claims : count_by is_claim log ≤ count_by is_claim (after_arrival log sub)
       claims = omega (arith, count_put is_claim log (fact.Part sub), count_put is_claim (put log (fact.Part sub)) (fact.Desc sub.slot sub.left sub.right))
 
-      by : (c : Bool) → has log (fact.Desc sub.slot sub.left sub.right) ≡ c → more ≡ claim_of (cond c Known Fresh) sub → length more + weight log ≤ weight (after_arrival log sub)
+      by : (c : Bool) → has log (fact.Desc sub.slot sub.left sub.right) ≡ c → more ≡ fresh_claim (cond c Known Fresh) sub → length more + weight log ≤ weight (after_arrival log sub)
       by true e none =
           omega (
             arith,

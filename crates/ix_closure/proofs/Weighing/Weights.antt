@@ -1,23 +1,14 @@
--- How many steps facts can have made owed, as facts are recorded.
-use Rattle.std.proofs.Common.{◌≡◌, ℕ, ◌+◌, ◌≤◌, Bool, true, false, List, [], ◌∷◌, ◌++◌, count_by, Some, slice_get, slice_set, arith}
+-- How many steps facts bring, as facts are recorded.
+use Rattle.std.proofs.Common.{◌≡◌, ℕ, ◌+◌, ◌≤◌, List, [], ◌∷◌, ◌++◌, Some, slice_get, slice_set, arith}
 use Rattle.std.specs.List.{sum_by}
 use Rattle.std.proofs.lemmas.List.Sums.{sum_by-cons}
 use Rattle.ix_cluster.specs.declared.fact.Fact.{Fact}
-use Rattle.ix_cluster.specs.declared.fact.Fact.TheVariants.{Claim}
 use Rattle.ix_cluster.specs.Banks.{is_descriptor, facts_of}
 use Rattle.ix_cluster.specs.Handed.{meets, pair_count}
 use Rattle.ix_cluster.specs.Seen.{Bank}
+use Rattle.ix_closure.specs.Quantity.{is_claim, weight}
 use Rattle.ix_closure.proofs.Lists.ListCounts.{count_append, sum_set}
 use Rattle.ix_closure.proofs.Weighing.LogCounts.{tallied}
-
--- whether the fact is a claim
-abbrev pub is_claim : Fact → Bool
-is_claim (Claim s l p) = true
-is_claim _ = false
-
--- the descriptors, the claims, and the pairs of an edge and an end: each can have made one step owed
-abbrev pub weight : List Fact → ℕ
-weight facts = count_by is_descriptor facts + count_by is_claim facts + pair_count facts
 
 -- two lists behind one another have the pairs of both, and those of one with the other
 pub pairs_append : (xs ys : List Fact) → pair_count xs + pair_count ys ≤ pair_count (xs ++ ys)

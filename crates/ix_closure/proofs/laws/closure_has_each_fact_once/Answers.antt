@@ -1,5 +1,6 @@
 use Rattle.std.proofs.Common.{rules, zero, suc, [], ◌∷◌, ◌++◌, Contains, refl, arith}
 use Rattle.std.specs.List.{IsDistinct}
+use Rattle.ix_model.specs.Closure.Useful.{sub_at}
 use Rattle.ix_examples.specs.SmallPlans.{nothing}
 use Rattle.ix_closure_laws.proofs.ClosedWithin.{called_within}
 use Rattle.ix_examples.proofs.SmallClosures.{part_1}
@@ -7,7 +8,6 @@ use Rattle.ix_cluster.specs.declared.fact.Fact.{Fact}
 use Rattle.ix_cluster.specs.declared.fact.Fact.TheVariants.{Called, Claim, End, Part}
 use Rattle.ix_cluster.proofs.Members.{none_has}
 use Rattle.ix_closure.specs.Examples.{a_called, nothing_called, nothing_closed}
-use Rattle.ix_closure.specs.Follows.{sub_of}
 use Rattle.ix_closure.proofs.Small.SmallStates.{b_closure, nothing_closure}
 use Rattle.ix_closure.proofs.Small.SmallSteps.{nothing_planned}
 use Rattle.ix_closure.proofs.laws.closure_has_each_fact_once.Goals as goal
@@ -34,7 +34,7 @@ end_left_out = search rules
 claim_left_out : Contains (nothing_called ++ End 0 0 0 ∷ []) (Claim 0 0 0) → ⊥
 claim_left_out = search rules
 
-part_left_out : Contains (a_called ++ Claim 0 0 0 ∷ []) (Part (sub_of 1 0 0 1)) → ⊥
+part_left_out : Contains (a_called ++ Claim 0 0 0 ∷ []) (Part (sub_at 1 0 0 1)) → ⊥
 part_left_out = search rules
 
 pub returns-clause-whole : goal.returns-clause-whole
@@ -64,4 +64,4 @@ pub returns-clause-on_b : goal.returns-clause-on_b
 returns-clause-on_b c = b_closure
 
 pub returns-clause-on_a : goal.returns-clause-on_a
-returns-clause-on_a c = λ h. part_left_out (h.all (Part (sub_of 1 0 0 1)) part_1)
+returns-clause-on_a c = λ h. part_left_out (h.all (Part (sub_at 1 0 0 1)) part_1)

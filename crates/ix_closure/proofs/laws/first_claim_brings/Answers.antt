@@ -1,8 +1,8 @@
 use Rattle.std.proofs.Common.{[], ◌∷◌, codes}
+use Rattle.ix_model.specs.Closure.Useful.{sub_at}
 use Rattle.ix_examples.specs.SmallPlans.{only_a}
 use Rattle.ix_examples.proofs.SmallPlans.{planned_a}
 use Rattle.ix_closure.specs.declared.owed.Owed.TheVariants.{Arrive}
-use Rattle.ix_closure.specs.Follows.{sub_of}
 use Rattle.ix_closure.proofs.Due.DescriptorSteps.{follows_same}
 use Rattle.ix_closure.proofs.Small.SmallSteps.{a_passes}
 use Rattle.ix_closure.proofs.laws.first_claim_brings.Goals as goal
@@ -11,4 +11,4 @@ pub returns-clause-mine : goal.returns-clause-mine
 returns-clause-mine c = a_passes
 
 pub returns-clause-mine_nothing : goal.returns-clause-mine_nothing
-returns-clause-mine_nothing c = λ h. let e = follows_same (only_a (codes "a")) planned_a 0 0 0 (Arrive (sub_of 1 0 0 1) ∷ []) [] a_passes h in cc e
+returns-clause-mine_nothing c = λ h. let e = follows_same (only_a (codes "a")) planned_a 0 0 0 (Arrive (sub_at 1 0 0 1) ∷ []) [] a_passes h in cc e

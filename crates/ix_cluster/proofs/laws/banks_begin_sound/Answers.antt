@@ -3,7 +3,7 @@ use Rattle.ix_examples.specs.SmallPlans.{cycle}
 use Rattle.ix_cluster.specs.declared.fact.Fact.TheVariants.{Called, Desc}
 use Rattle.ix_cluster.specs.Banks.{opening, opening_bank}
 use Rattle.ix_cluster.specs.Seen.{Bank}
-use Rattle.ix_cluster.specs.Sound.{IsSound}
+use Rattle.ix_cluster.specs.Sound.{IsSoundBank}
 use Rattle.ix_cluster.proofs.Members.{first_has, none_has}
 use Rattle.ix_cluster.proofs.SmallBanks.{begins_sound}
 use Rattle.ix_cluster.proofs.laws.banks_begin_sound.Goals as goal
@@ -14,8 +14,8 @@ returns-clause-one c = begins_sound
 pub returns-clause-all : goal.returns-clause-all
 returns-clause-all c = record { some = omega arith; few = omega arith; each = each }
   where
-    each : (m : ℕ) (bank : Bank) → slice_get (opening (cycle []) 1) m ≡ Some bank → IsSound (cycle []) 1 m bank
-    each zero bank e = let same : opening_bank (cycle []) 1 0 ≡ bank = cc e in subst (IsSound (cycle []) 1 0) same begins_sound
+    each : (m : ℕ) (bank : Bank) → slice_get (opening (cycle []) 1) m ≡ Some bank → IsSoundBank (cycle []) 1 m bank
+    each zero bank e = let same : opening_bank (cycle []) 1 0 ≡ bank = cc e in subst (IsSoundBank (cycle []) 1 0) same begins_sound
     each (suc m) bank e = absurd (cc e)
 
 pub returns-clause-empty : goal.returns-clause-empty

@@ -1,16 +1,16 @@
-use Rattle.std.proofs.Common.{◌∙◌, ◌≤◌, ◌+◌, ◌-◌, ◌*◌, [], ap, sym, subst, refl, length}
+use Rattle.std.proofs.Common.{arith, ◌∙◌, ◌≤◌, ◌+◌, ◌*◌, [], ap, sym, subst, refl, length}
 use Rattle.std.specs.List.{count_by}
 use Rattle.ix_model.specs.Expansion.Parts.{Parts}
 use Rattle.ix_cluster.specs.Banks.{facts_of, is_descriptor}
-use Rattle.ix_closure.specs.Events.{Event}
-use Rattle.ix_closure.specs.Runs.{rests}
+use Rattle.ix_closure.specs.LastRuns.{stays}
 use Rattle.ix_closure.specs.Seen.{Core}
 use Rattle.ix_closure.proofs.Weighing.FewDescriptors.{few_descriptors}
-use Rattle.ix_closure.proofs.Closing.Finishing.{from_on_ok, event_falls, reached_further}
+use Rattle.ix_closure.proofs.Closing.Finishing.{from_on_ok, event_falls}
+use Rattle.ix_closure.proofs.Closing.LastSteps.{last_further}
 use Rattle.ix_closure.proofs.state.Core.finish.Goals as goal
 
 pub loop-core-init : goal.loop-core-init
-loop-core-init c = record { plan = refl; reached = ([], rests) }
+loop-core-init c = record { plan = refl; reached = ([], stays) }
 
 pub returns-then-count-eq0-clause-few : goal.returns-then-count-eq0-clause-few
 returns-then-count-eq0-clause-few c =
@@ -30,6 +30,5 @@ loop-core-preserved c =
     let event = from_on_ok c.step.result (sym c.is_err.ensures.value ∙ c.if-is_err.false) c.step.ensures.event in
     record {
       plan = c.step.ensures.plan ∙ c.loop-core.invariant.plan;
-      reached = reached_further c.args.self.plan c.args.self.state c.loop-core.core.state c.step.new.self.state (c.owed-count.result - 1) c.loop-core.invariant.reached
-          (subst (λ (plan : Parts). Event plan c.loop-core.core.state (c.owed-count.result - 1) c.step.new.self.state) c.loop-core.invariant.plan event);
+      reached = last_further c.loop-core.invariant.reached c.loop-core.invariant.plan (omega (arith, c.owed-count.ensures.count, c.if-count-eq0.false)) event;
     }

@@ -6,7 +6,7 @@ use Rattle.ix_cluster.proofs.CalledEdges.{called-call, called-none_yet}
 use Rattle.ix_cluster.proofs.Handing.{handed-call}
 use Rattle.ix_cluster.proofs.Listing.{AreListed-begin}
 use Rattle.ix_cluster.specs.Room.{unclaimed_in}
-use Rattle.ix_cluster.specs.Sound.{IsSound}
+use Rattle.ix_cluster.specs.Sound.{IsSoundBank}
 use Rattle.ix_cluster.proofs.Soundness.{sound-begin}
 use Rattle.ix_cluster.proofs.bank.Bank.begin.Goals as goal
 
@@ -24,5 +24,5 @@ invariant_of-result c =
 pub returns-clause-sound : goal.returns-clause-sound
 returns-clause-sound c count m here =
     let e : c.call.new.log.facts ≡ after_call c.args.plan.now [] 0 0 = search rules in
-    subst (λ (facts : List Fact). IsSound c.args.plan.now count m (record { log = facts; handed = 0 })) (sym e)
+    subst (λ (facts : List Fact). IsSoundBank c.args.plan.now count m (record { log = facts; handed = 0 })) (sym e)
     (sound-begin c.args.plan.now count m c.slot_count.ensures.planned here (omega (arith, ap length e, ap unclaimed_in e, c.len.ensures.len, c.len.ensures.small)))

@@ -2,7 +2,7 @@ use Rattle.std.proofs.Common.{arith, ◌≡◌, ◌∙◌, ◌++◌, ◌∷◌, 
 use Rattle.std.proofs.lemmas.List.FromFn.{map-range_with_len_more, length-map-range_with_len}
 use Rattle.ix_cluster.specs.Banks.{opening_bank}
 use Rattle.ix_cluster.specs.Seen.{Bank}
-use Rattle.ix_cluster.specs.Sound.{IsSound}
+use Rattle.ix_cluster.specs.Sound.{IsSoundBank}
 use Rattle.ix_cluster.proofs.Soundness.{sound-push}
 use Rattle.ix_cluster.proofs.banks.Banks.begin.Goals as goal
 
@@ -12,7 +12,7 @@ loop-m-preserved c = record {
       c.in_ok-push.ensures.items ∙ ap₂ (λ xs x. xs ++ x ∷ []) c.loop-m.invariant.opening c.in_ok-opening_bank.ensures.opening ∙
       sym (map-range_with_len_more (opening_bank c.args.plan.now c.args.count) 0 c.loop-m.m c.loop-m.m (omega arith));
   sound =
-      subst (λ (xs : List Bank). (i : ℕ) (bank : Bank) → slice_get xs i ≡ Some bank → IsSound c.args.plan.now c.args.count i bank) (sym c.in_ok-push.ensures.items)
+      subst (λ (xs : List Bank). (i : ℕ) (bank : Bank) → slice_get xs i ≡ Some bank → IsSoundBank c.args.plan.now c.args.count i bank) (sym c.in_ok-push.ensures.items)
       (sound-push c.args.plan.now c.args.count 0 c.loop-m.banks.items c.in_ok-opening_bank.field-0 c.loop-m.m (ap length c.loop-m.invariant.opening ∙ length-map-range_with_len (opening_bank c.args.plan.now c.args.count) 0 c.loop-m.m) c.loop-m.invariant.sound c.in_ok-opening_bank.ensures.sound);
 }
 
@@ -22,5 +22,5 @@ returns-clause-sound c =
     record {
       some = omega (arith, len, c.requires.some);
       few = omega (arith, len, c.requires.few);
-      each = λ m bank e. subst (λ (n : ℕ). IsSound c.args.plan.now n m bank) (sym len) (c.loop-m.invariant.sound m bank e);
+      each = λ m bank e. subst (λ (n : ℕ). IsSoundBank c.args.plan.now n m bank) (sym len) (c.loop-m.invariant.sound m bank e);
     }
