@@ -7,7 +7,6 @@ ghost use Rattle.ix_examples.specs.SmallSpellings.{of_class};
 ghost use Rattle.ix_errors.specs.declared.breach.Breach.TheVariants.{Class, Duplicate, Memory, Range};
 ghost use Rattle.ix_errors.specs.Breaches.{fault_of, falling, IsLeast, IsOfCode, NamesFirst, NamesRepeated};
 ghost use Rattle.ix_errors.specs.Firsts.{IsAmong, IsRepeatedAt, IsSearchFor, IsSearchForRepeated, NoneRepeatedBelow};
-ghost use Rattle.ix_errors.specs.KnownClasses.{second_letters};
 ghost use Rattle.ix_errors.specs.Laws.{LeastIsNamed, range_class_call, range_and_class, all_three};
 ghost use Rattle.ix_errors.specs.Mentions.{AreOf};
 
@@ -39,12 +38,6 @@ pub fn last_of_three_is_repeated()
     ensures none_below { NoneRepeatedBelow (codes "S" ∷ codes "b" ∷ codes "S" ∷ []) 2 }
     ensures found { IsSearchForRepeated (codes "S" ∷ codes "b" ∷ codes "S" ∷ []) (Some (codes "S")) }
     ensures not_none { ¬ (IsSearchForRepeated (codes "S" ∷ codes "b" ∷ codes "S" ∷ []) None) }
-{}
-
-/// The letters that follow L are those of letters; none follows X.
-pub fn letters_that_follow()
-    ensures letters { second_letters 76 ≡ codes "ultmo" }
-    ensures none { second_letters 88 ≡ [] }
 {}
 
 /// What errors say of `S: [Xx].` and of `S: "a".`

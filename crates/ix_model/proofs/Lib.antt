@@ -1,5 +1,6 @@
 pub mod AllOf
 pub mod Booleans
+pub mod Categories
 pub mod Decide
 pub mod FirstNames
 pub mod Folds

@@ -2,6 +2,7 @@
 #![tactic(auto)]
 
 mod char_set;
+mod classes;
 mod counts;
 mod grammar;
 mod hexadecimal;
@@ -14,6 +15,7 @@ mod sub;
 mod text;
 
 pub use char_set::{CharRange, CharSet};
+pub use classes::{CATEGORIES, class_has, is_known_class};
 pub use counts::Counts;
 pub use grammar::{Alt, Bound, Chars, Factor, Grammar, Mark, Member, Rule, TMark, Term};
 pub use hexadecimal::code_point;

@@ -9,7 +9,7 @@ use Rattle.ucd_category.specs.GeneralCategory.{general_category_number, general_
 use Rattle.ucd_category.proofs.GeneralCategoryLemmas.{general_category_from_number-general_category_number, general_category_number-lt, general_category_number_injective}
 use Rattle.regex_class.specs.Ranges.{Range}
 use Rattle.ix_model.specs.declared.grammar.Member.{Member}
-use Rattle.ix_sets.specs.declared.class.TheConstants.{CATEGORIES}
+use Rattle.ix_model.specs.declared.classes.TheConstants.{CATEGORIES}
 use Rattle.ix_sets.specs.Gains.{Gains}
 use Rattle.ix_sets.specs.Kinds.{has_category}
 use Rattle.std.specs.List.{list_any}

@@ -1,7 +1,7 @@
 use Rattle.std.proofs.Common.{get_or, refl, arith}
 use Rattle.unicode.specs.GeneralCategory.{general_category}
 use Rattle.ucd_category.specs.declared.GeneralCategory.TheVariants.{UppercaseLetter}
-use Rattle.ix_sets.specs.declared.class.TheConstants.{CATEGORIES}
+use Rattle.ix_model.specs.declared.classes.TheConstants.{CATEGORIES}
 use Rattle.ix_sets.proofs.Gaining.{gains_nothing, gains_more, gains_all, gains_as, some_map, some_tells}
 use Rattle.ix_sets.proofs.Categories.{IsNamed, IsNamedAs, every}
 use Rattle.ix_sets.proofs.class.push_classes.Goals as goal
