@@ -1,11 +1,14 @@
 -- Laws of steps and of the closure: what a step brings and leads to is one thing, and so are the end of a list of choices
 -- and the closure; and what follows stays in the closure and in balance.
 use Rattle.std.specs.Prelude.{◌≡◌, ℕ, ◌+◌, ◌<◌, ◌^◌, ◌↔◌, List, length, Contains, Some, slice_get}
+use Rattle.std.specs.List.{filter_map}
 use Rattle.ix_model.specs.Expansion.Parts.{Parts}
 use Rattle.ix_model.specs.Expansion.Planned.{IsPlanned}
 use Rattle.ix_cluster.specs.declared.fact.Fact.{Fact}
 use Rattle.ix_cluster.specs.BankSteps.{BankStep}
 use Rattle.ix_cluster.specs.StepAnswers.{answer_to}
+use Rattle.ix_closure_laws.specs.PartLists.{AreParts}
+use Rattle.ix_cluster.specs.Banks.{recorded_sub}
 use Rattle.ix_cluster.specs.ClosedFacts.{IsInClosed}
 use Rattle.ix_cluster.specs.Room.{unclaimed_in}
 use Rattle.ix_cluster.specs.Seen.{Bank}
@@ -68,3 +71,8 @@ LastRunIsRun = (plan : Parts) (first : State) (choices : List ℕ) (last : State
 -- lists of the closure have the same facts, and as many
 abbrev pub ClosureOnce : Type 0
 ClosureOnce = (plan : Parts) (a b : List Fact) → IsClosure plan a → IsClosure plan b → ((f : Fact) → Contains a f ↔ Contains b f) × (length a ≡ length b)
+
+-- of facts that are the closure, the binary subtrees are exactly those of the plan: what the search for useful subtrees
+-- asks for
+abbrev pub ClosureListsParts : Type 0
+ClosureListsParts = (plan : Parts) (facts : List Fact) → IsClosure plan facts → AreParts plan (filter_map recorded_sub facts)

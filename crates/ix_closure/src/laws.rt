@@ -14,7 +14,7 @@ ghost use Rattle.ix_closure.specs.Events.{call_of, log_after, handed_by, bank_af
 ghost use Rattle.ix_closure.specs.Examples.{alone, a_called, alternatives_claimed, IsUntidy, cycle_begun, cycle_called, cycle_claimed, nothing_begun, nothing_called, nothing_claimed, nothing_closed, nothing_ended, two_banks};
 ghost use Rattle.ix_closure.specs.Follows.{fact_of, arrival, claims_at, claim_for, claims_for, FollowsDesc, FollowsClaim, opened, met_ends, met_edges, fresh_claim, Follows};
 ghost use Rattle.ix_closure.specs.LastRuns.{LastRun, IsReachedByLast};
-ghost use Rattle.ix_closure.specs.Laws.{FollowsOnce, FollowsThere, EventOnce, EventIsBankStep, HasMemory, EventThere, RunOnce, LastRunIsRun, DueIsClosed, EventKeepsBalance, RunKeepsBalance, ClosureOnce};
+ghost use Rattle.ix_closure.specs.Laws.{ClosureListsParts, ClosureOnce, DueIsClosed, EventIsBankStep, EventKeepsBalance, EventOnce, EventThere, FollowsOnce, FollowsThere, HasMemory, LastRunIsRun, RunKeepsBalance, RunOnce};
 ghost use Rattle.ix_closure.specs.Orders.{EveryOrder};
 ghost use Rattle.ix_closure.specs.Quantity.{same_step, times, gives, givers, is_claim, weight, step_bound};
 ghost use Rattle.ix_closure.specs.Ready.{HasFurther, HasSlot, IsReady, IsReplaced};
@@ -362,6 +362,12 @@ pub fn closure_has_each_fact_once()
 /// All lists of the closure have the same facts, and as many.
 pub fn closure_is_one()
     ensures { ClosureOnce }
+{}
+
+/// Of facts that are the closure, the binary subtrees are exactly those of the plan. What `Banks::all_subs` answers of
+/// banks that have the closure is so what the search for useful subtrees asks for.
+pub fn closure_lists_parts()
+    ensures { ClosureListsParts }
 {}
 
 // ---- counts
