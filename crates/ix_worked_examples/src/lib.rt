@@ -20,3 +20,4 @@ pub mod spelling;
 pub mod terminals;
 pub mod useful;
 pub mod walks;
+pub mod xml_names;
