@@ -3,6 +3,7 @@
 
 pub mod answers;
 pub mod choice;
+pub mod classes;
 pub mod closure;
 pub mod commands;
 pub mod conformance;
