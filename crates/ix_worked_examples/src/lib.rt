@@ -2,6 +2,7 @@
 #![tactic(auto)]
 
 pub mod answers;
+pub mod characters;
 pub mod choice;
 pub mod classes;
 pub mod closure;
@@ -21,4 +22,5 @@ pub mod spelling;
 pub mod terminals;
 pub mod useful;
 pub mod walks;
+pub mod words;
 pub mod xml_names;
