@@ -13,6 +13,7 @@ pub mod derivations;
 pub mod documents;
 pub mod expansion;
 pub mod order;
+pub mod outcomes;
 pub mod places;
 pub mod plans;
 pub mod readings;
