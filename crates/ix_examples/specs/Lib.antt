@@ -3,6 +3,7 @@ pub mod SmallGivens
 pub mod SmallGrammars
 pub mod SmallPlans
 pub mod SmallReadings
+pub mod SmallRoots
 pub mod SmallRules
 pub mod SmallSpellings
 pub mod SmallTrees

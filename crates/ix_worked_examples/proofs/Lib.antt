@@ -1,5 +1,6 @@
 pub mod FirstTexts
 pub mod PlanFacts
+pub mod RefusedTexts
 pub mod Rivals
 pub mod SmallAnswers
 pub mod SmallDocuments
