@@ -48,6 +48,10 @@ forms = grammar (marked_rule (Some Attribute) (codes "S") (
     ∷ [])
     ∷ []) ∷ [])
 
+-- S: "a". b: "a".
+abbrev pub two_rules : Grammar
+two_rules = grammar (rule (codes "S") (alternative (quoted (codes "a") ∷ []) ∷ []) ∷ rule (codes "b") (alternative (quoted (codes "a") ∷ []) ∷ []) ∷ [])
+
 -- ---- parts
 
 -- #digits

@@ -20,6 +20,7 @@ pub mod readings;
 pub mod refusals;
 pub mod sizes;
 pub mod spelling;
+pub mod spellings;
 pub mod terminals;
 pub mod useful;
 pub mod walks;
