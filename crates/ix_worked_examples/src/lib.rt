@@ -12,6 +12,7 @@ pub mod depth;
 pub mod derivations;
 pub mod documents;
 pub mod expansion;
+pub mod marks;
 pub mod order;
 pub mod outcomes;
 pub mod places;
