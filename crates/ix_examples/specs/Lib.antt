@@ -1,6 +1,7 @@
 pub mod SmallAnswers
 pub mod SmallGivens
 pub mod SmallGrammars
+pub mod SmallHelpers
 pub mod SmallMarks
 pub mod SmallPlans
 pub mod SmallReadings

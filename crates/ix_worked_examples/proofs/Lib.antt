@@ -1,4 +1,5 @@
 pub mod FirstTexts
+pub mod ManyHelpers
 pub mod PlanFacts
 pub mod RefusedTexts
 pub mod Rivals
