@@ -1,5 +1,5 @@
 -- The numbered rules of a grammar with each form of term.
-use Rattle.std.proofs.Common.{◌≡◌, ◌<◌, refl, ap, ◌∙◌, sym, ℕ, List, [], ◌∷◌, Some, None, false, codes, length, arith}
+use Rattle.std.proofs.Common.{◌≡◌, ◌<◌, refl, ap, ℕ, [], ◌∷◌, Some, None, false, codes, length, arith}
 use Rattle.ix_model.specs.declared.grammar.Mark.TheVariants.{Attribute}
 use Rattle.ix_model.specs.declared.rules.Sym.TheVariants as sy
 use Rattle.ix_model.specs.declared.rules.Rules.{Rules}
@@ -34,18 +34,18 @@ expands_many = record {
   names = refl;
   marks = refl;
   walk =
-    X.and_rule _ _ _ _ _ _ ((helper 2 ∷ sy.Rule 1 (Some Attribute) ∷ sy.Insert 0 ∷ []) ∷ []) refl
-    (X.and_alt _ _ _ _ _ _ _
-    (X.and_term _ _ _ _ _ _ _ (X.plus _ _ _ _ _ (X.repeated _ _ _ _ _ (helper 3) (Some (helper 5)) refl item_becomes (X.separator _ _ _ _ separator_becomes)))
-    (X.and_term _ _ _ _ _ _ _ (X.alone _ _ _ _ (X.called _ (Some Attribute) (codes "b") 1 (_, refl, refl)))
-    (X.and_term _ _ _ _ _ _ _ (X.alone _ _ _ _ (X.inserted _ _ refl)) (X.no_term _))))
-    (X.no_alt _))
-    (X.and_rule _ _ _ _ _ _ ((helper 6 ∷ []) ∷ []) refl
-    (X.and_alt _ _ _ _ _ _ _
-    (X.and_term _ _ _ _ _ _ _ (X.star _ _ _ _ (helper 7) refl (X.repeated _ _ _ _ _ (left_out 3) None refl (X.literal _ _ _ refl) (X.no_separator _)))
-    (X.no_term _))
-    (X.no_alt _))
-    (X.no_rule _ _));
+      X.and_rule _ _ _ _ _ _ ((helper 2 ∷ sy.Rule 1 (Some Attribute) ∷ sy.Insert 0 ∷ []) ∷ []) refl
+      (X.and_alt _ _ _ _ _ _ _
+      (X.and_term _ _ _ _ _ _ _ (X.plus _ _ _ _ _ (X.repeated _ _ _ _ _ (helper 3) (Some (helper 5)) refl item_becomes (X.separator _ _ _ _ separator_becomes)))
+      (X.and_term _ _ _ _ _ _ _ (X.alone _ _ _ _ (X.called _ (Some Attribute) (codes "b") 1 (_, refl, refl)))
+      (X.and_term _ _ _ _ _ _ _ (X.alone _ _ _ _ (X.inserted _ _ refl)) (X.no_term _))))
+      (X.no_alt _))
+      (X.and_rule _ _ _ _ _ _ ((helper 6 ∷ []) ∷ []) refl
+      (X.and_alt _ _ _ _ _ _ _
+      (X.and_term _ _ _ _ _ _ _ (X.star _ _ _ _ (helper 7) refl (X.repeated _ _ _ _ _ (left_out 3) None refl (X.literal _ _ _ refl) (X.no_separator _)))
+      (X.no_term _))
+      (X.no_alt _))
+      (X.no_rule _ _));
   rule_count = refl;
   terminal_count = refl;
   insert_count = refl;

@@ -1,7 +1,6 @@
 -- Texts under grammars of one rule of any mark and name: their derivations, and what these answer.
 use Rattle.std.proofs.Common.{rules, ◌≡◌, ◌≢◌, refl, ap, sym, subst, ◌⊎◌, ℕ, ◌≤◌, List, [], ◌∷◌, Some, Option, None, codes, length, take, drop, arith}
 use mathlib.Core.Logic.{inl, inr}
-use Rattle.std.specs.List.{AllByRecursion}
 use Rattle.ix_model.specs.declared.grammar.Grammar.{Grammar}
 use Rattle.ix_model.specs.declared.grammar.Rule.{Rule}
 use Rattle.ix_model.specs.declared.grammar.Mark.{Mark}
@@ -18,7 +17,7 @@ use Rattle.ix_model.specs.Derivations.Derives.{DerivesAll, IsDerivation, Ambiguo
 use Rattle.ix_model.specs.Derivations.Order.{Before, First}
 use Rattle.ix_model.specs.Documents.Gives.{Givens, attribute, element, nothing, followed, gives_root}
 use Rattle.ix_model.specs.Documents.XmlNames.{is_xml_name_start, is_xml_name}
-use Rattle.ix_model.specs.Documents.Dyn.{Refusal, attribute_at_top, bad_name, Dyn, Holds, refusal_number}
+use Rattle.ix_model.specs.Documents.Dyn.{Refusal, attribute_at_top, bad_name, Dyn, refusal_number}
 use Rattle.ix_model.specs.Answers.Outcome.{failed, refused}
 use Rattle.ix_model.specs.Answers.Answer.{Parsed}
 use Rattle.ix_examples.specs.SmallGrammars.{alternative, grammar, quoted}

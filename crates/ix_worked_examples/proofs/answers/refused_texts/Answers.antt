@@ -1,4 +1,4 @@
-use Rattle.std.proofs.Common.{◌≡◌, refl, ap, ◌∷◌, ◌++◌, [], Some, None, codes, arith}
+use Rattle.std.proofs.Common.{◌≡◌, refl, ap, ◌∷◌, Some, None, codes, arith}
 use mathlib.Core.Logic.{inr}
 use Rattle.std.specs.Str.{chars}
 use Rattle.unicode.specs.GeneralCategory.{general_category}

@@ -1,4 +1,4 @@
-use Rattle.std.proofs.Common.{refl, [], ◌∷◌, codes, arith}
+use Rattle.std.proofs.Common.{refl, [], ◌∷◌, codes}
 use Rattle.ix_answer_laws.proofs.Commands.{of_read, unread, three_operands}
 use Rattle.ix_worked_examples.proofs.commands.hyphens.Goals as goal
 

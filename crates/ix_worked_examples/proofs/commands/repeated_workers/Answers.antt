@@ -1,4 +1,4 @@
-use Rattle.std.proofs.Common.{refl, [], ◌∷◌, codes, arith}
+use Rattle.std.proofs.Common.{refl, [], ◌∷◌, codes}
 use Rattle.ix_model.specs.Answers.CommandLine.{Command, parse, check, sample, Asks}
 use Rattle.ix_answer_laws.proofs.Commands.{of_read, no_workers, parts_are}
 use Rattle.ix_worked_examples.proofs.commands.repeated_workers.Goals as goal

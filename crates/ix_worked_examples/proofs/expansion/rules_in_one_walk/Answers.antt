@@ -1,4 +1,3 @@
-use Rattle.std.proofs.Common.{codes}
 use Rattle.ix_worked_examples.proofs.ManyHelpers.{expands_many}
 use Rattle.ix_worked_examples.proofs.expansion.rules_in_one_walk.Goals as goal
 

@@ -1,4 +1,4 @@
-use Rattle.std.proofs.Common.{◌≡◌, ap, arith}
+use Rattle.std.proofs.Common.{ap, arith}
 use Rattle.ix_model.specs.Spelling.Depth.{depth}
 use Rattle.ix_model.specs.Answers.Decoding.{decoded}
 use Rattle.ix_spelling_laws.proofs.ReadingComplete.{spelled_once}

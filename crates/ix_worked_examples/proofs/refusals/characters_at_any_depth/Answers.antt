@@ -1,5 +1,5 @@
-use Rattle.std.proofs.Common.{refl, [], ◌∷◌, codes}
-use Rattle.ix_model.specs.Documents.XmlNames.{is_xml_name_start, is_xml_name_char, is_xml_char, is_xml_name}
+use Rattle.std.proofs.Common.{refl, [], ◌∷◌}
+use Rattle.ix_model.specs.Documents.XmlNames.{is_xml_char}
 use Rattle.ix_model.specs.Documents.Dyn.{all_characters}
 use Rattle.ix_examples.specs.SmallGivens.{document, text_of, three_deep}
 use Rattle.ix_worked_examples.proofs.SmallDocuments.{all_pass, first_failing}

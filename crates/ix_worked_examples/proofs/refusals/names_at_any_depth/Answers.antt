@@ -1,5 +1,5 @@
 use Rattle.std.proofs.Common.{◌≡◌, refl, ap, get_or, ℕ, zero, suc, ◌<◌, List, [], ◌∷◌, Some, slice_get, codes, arith}
-use Rattle.ix_model.specs.Documents.XmlNames.{is_xml_name_start, is_xml_name_char, is_xml_char, is_xml_name}
+use Rattle.ix_model.specs.Documents.XmlNames.{is_xml_name_start, is_xml_name_char, is_xml_name}
 use Rattle.ix_model.specs.Documents.Dyn.{all_names}
 use Rattle.ix_examples.specs.SmallGivens.{document, stops, three_deep}
 use Rattle.ix_worked_examples.proofs.SmallDocuments.{all_pass, first_failing}
