@@ -7,11 +7,13 @@ ghost use Rattle.ix_model.specs.declared.grammar.Term.{One, Opt};
 ghost use Rattle.ix_model.specs.declared.grammar.Factor.{Lit, Set};
 ghost use Rattle.ix_model.specs.Matching.Classes.{in_class};
 ghost use Rattle.ix_model.specs.Matching.Codes.{code_value, characters, bound_value};
+ghost use Rattle.ix_model.specs.Matching.Ranges.{IsInRanges, AreApart};
 ghost use Rattle.ix_model.specs.Matching.Sets.{IsOfMember, InSet};
 ghost use Rattle.ix_model.specs.Matching.Terminals.{Matches};
 ghost use Rattle.ix_model.specs.Derivations.Trees.{Tree, insertion};
 ghost use Rattle.ix_model.specs.Derivations.Derives.{Derives};
 ghost use Rattle.ix_examples.specs.SmallGrammars.{quoted, inserted, digits, only_a};
+ghost use Rattle.ix_examples.specs.SmallRules.{range};
 
 /// A literal stands where its characters do, and nowhere else; the empty one takes no character.
 pub fn literals_stand()
@@ -131,4 +133,24 @@ pub fn sets_match_one_character()
 pub fn nothing_matched()
     ensures empty { (s : List ℕ) (i j : ℕ) → ¬ (Matches s (One (Set None false [])) i j) }
     ensures empty_string { (s : List ℕ) (i j : ℕ) → ¬ (Matches s (One (Set None false (member.Quoted [] ∷ []))) i j) }
+{}
+
+/// Ranges hold what any of them does, both bounds included; they are apart where a number lies between each two.
+pub fn ranges_apart()
+    ensures low { IsInRanges 48 (range 48 57 ∷ range 97 122 ∷ []) }
+    ensures high { IsInRanges 57 (range 48 57 ∷ range 97 122 ∷ []) }
+    ensures second_low { IsInRanges 97 (range 48 57 ∷ range 97 122 ∷ []) }
+    ensures second_high { IsInRanges 122 (range 48 57 ∷ range 97 122 ∷ []) }
+    ensures below { ¬ (IsInRanges 47 (range 48 57 ∷ range 97 122 ∷ [])) }
+    ensures between_low { ¬ (IsInRanges 58 (range 48 57 ∷ range 97 122 ∷ [])) }
+    ensures between_high { ¬ (IsInRanges 96 (range 48 57 ∷ range 97 122 ∷ [])) }
+    ensures above { ¬ (IsInRanges 123 (range 48 57 ∷ range 97 122 ∷ [])) }
+    ensures none { (c : ℕ) → ¬ (IsInRanges c []) }
+    ensures gap { AreApart (range 0 9 ∷ range 11 11 ∷ range 13 20 ∷ []) }
+    ensures no_gap { ¬ (AreApart (range 0 9 ∷ range 10 11 ∷ [])) }
+    ensures no_later_gap { ¬ (AreApart (range 0 9 ∷ range 11 12 ∷ range 13 20 ∷ [])) }
+    ensures unsorted { ¬ (AreApart (range 20 30 ∷ range 0 9 ∷ [])) }
+    ensures falling { ¬ (AreApart (range 9 8 ∷ [])) }
+    ensures later_falling { ¬ (AreApart (range 0 1 ∷ range 9 8 ∷ [])) }
+    ensures nothing { AreApart [] }
 {}
