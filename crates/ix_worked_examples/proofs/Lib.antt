@@ -1,5 +1,6 @@
 pub mod FirstTexts
 pub mod ManyHelpers
+pub mod Pairs
 pub mod PlanFacts
 pub mod RefusedTexts
 pub mod Rivals
