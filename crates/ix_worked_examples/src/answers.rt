@@ -6,6 +6,7 @@ ghost use Rattle.ix_model.specs.Documents.Dyn.{attribute_at_top, not_one_element
 ghost use Rattle.ix_model.specs.Answers.Outcome.{no_form, grammar_not_utf8, not_conforming, refused, conforms, failed, message_of};
 ghost use Rattle.ix_model.specs.Answers.Answer.{Answer};
 ghost use Rattle.ix_examples.specs.SmallAnswers.{check_g, parse_g_t, holding, holding_grammar, one_way, both_ways};
+ghost use Rattle.ix_examples.specs.SmallSpellings.{pairs_text};
 ghost use Rattle.ix_examples.specs.SmallRoots.{two_roots, ordinal_way, attribute_ways, lines_way};
 
 /// Words without a form, whatever the files hold.
@@ -38,6 +39,12 @@ pub fn long_files()
     ensures grammar { (bytes : List ℕ) → length bytes ≡ 1048577 → Answer check_g (holding_grammar bytes) 3 [] (codes "ixml: G08: grammar longer than 1048576 bytes\n") }
     ensures before_text { (bytes : List ℕ) → length bytes ≡ 1048577 → Answer parse_g_t (holding_grammar bytes) 3 [] (codes "ixml: G08: grammar longer than 1048576 bytes\n") }
     ensures text { (bytes : List ℕ) → length bytes ≡ 16777217 → Answer parse_g_t (holding one_way bytes) 6 [] (codes "ixml: text longer than 16777216 bytes\n") }
+{}
+
+/// A hundred parentheses open at once are a grammar, and one more is too deep.
+pub fn deep_grammars()
+    ensures hundred { Answer check_g (holding_grammar (pairs_text 100)) 0 (codes "ok\n") [] }
+    ensures one_more { Answer check_g (holding_grammar (pairs_text 101)) 3 [] (codes "ixml: G09: more than 100 open parentheses\n") }
 {}
 
 /// A first derivation that is no document, also where there is a second one.
