@@ -1,8 +1,11 @@
 pub mod SmallAnswers
 pub mod SmallGivens
 pub mod SmallGrammars
+pub mod SmallHelpers
+pub mod SmallMarks
 pub mod SmallPlans
 pub mod SmallReadings
+pub mod SmallRoots
 pub mod SmallRules
 pub mod SmallSpellings
 pub mod SmallTrees

@@ -62,3 +62,15 @@ x_within_x = followed (a_is (codes "x")) (followed (run (codes "t")) (followed (
 -- `a` and the character 1, and an attribute with the character 0
 abbrev pub controls : Givens
 controls = followed (run (97 ∷ 1 ∷ [])) (followed (attribute (codes "a") (0 ∷ [])) nothing)
+
+-- <n b="2" c="3">u<m/></n>, with the second attribute given behind the element `m`
+abbrev pub element_n : Given
+element_n = element (codes "n") (followed (attribute (codes "b") (codes "2")) (followed (run (codes "u")) (followed (element (codes "m") nothing) (followed (attribute (codes "c") (codes "3")) nothing))))
+
+-- <S a="1" d="4">t<n ..>v</S>, with the second attribute given behind the element `n`
+abbrev pub three_deep : Givens
+three_deep = followed (attribute (codes "a") (codes "1")) (followed (run (codes "t")) (followed element_n (followed (attribute (codes "d") (codes "4")) (followed (run (codes "v")) nothing))))
+
+-- that element, with characters and an attribute behind it
+abbrev pub and_more : Givens
+and_more = followed (s_with three_deep) (followed (run (codes "wx")) (followed (attribute (codes "top") (codes "0")) nothing))

@@ -1,5 +1,5 @@
 -- Grammars as characters and as values, and small grammars that do not conform: what the worked examples speak of.
-use Rattle.std.specs.Prelude.{ℕ, List, [], ◌∷◌, Some, None, true, false, codes}
+use Rattle.std.specs.Prelude.{ℕ, zero, suc, List, [], ◌∷◌, ◌++◌, replicate, Some, None, true, false, codes}
 use Rattle.ix_model.specs.declared.grammar.Grammar.{Grammar}
 use Rattle.ix_model.specs.declared.grammar.Mark.TheVariants.{Attribute, Hidden}
 use Rattle.ix_model.specs.declared.grammar.TMark.TheVariants.{Shown, Deleted}
@@ -48,6 +48,10 @@ forms = grammar (marked_rule (Some Attribute) (codes "S") (
     ∷ [])
     ∷ []) ∷ [])
 
+-- S: "a". b: "a".
+abbrev pub two_rules : Grammar
+two_rules = grammar (rule (codes "S") (alternative (quoted (codes "a") ∷ []) ∷ []) ∷ rule (codes "b") (alternative (quoted (codes "a") ∷ []) ∷ []) ∷ [])
+
 -- ---- parts
 
 -- #digits
@@ -65,6 +69,18 @@ from_to low high = set_of (member.Range (bound.Quoted low) (bound.Quoted high))
 -- (t)   for one term t
 abbrev pub in_parentheses : Term → Factor
 in_parentheses t = Group (alternative (t ∷ []) ∷ [])
+
+-- t in so many pairs of parentheses
+abbrev pub in_pairs : ℕ → Term → Term
+in_pairs zero t = t
+in_pairs (suc n) t = One (in_parentheses (in_pairs n t))
+
+-- S: ((.. ("a") ..)).   with so many pairs, as characters and as a value
+abbrev pub pairs_text : ℕ → List ℕ
+pairs_text n = codes "S: " ++ (replicate n 40 ++ (codes "\"a\"" ++ (replicate n 41 ++ codes ".")))
+
+abbrev pub pairs : ℕ → Grammar
+pairs n = of_term (in_pairs n (quoted (codes "a")))
 
 -- ---- grammars
 

@@ -3,7 +3,10 @@ pub mod DepthsAndRuns
 pub mod EmptyTexts
 pub mod EnteredRules
 pub mod FirstTexts
+pub mod ManyHelpers
+pub mod Pairs
 pub mod PlanFacts
+pub mod RefusedTexts
 pub mod Rivals
 pub mod SmallAnswers
 pub mod SmallDocuments

@@ -1,9 +1,13 @@
-ghost use Rattle.std.specs.Prelude.{◌≡◌, ℕ, List, [], ◌∷◌, ◌++◌, Option, codes};
+ghost use Rattle.std.specs.Prelude.{◌≡◌, ℕ, List, [], ◌∷◌, ◌++◌, Option, Some, length, codes};
+ghost use Rattle.ix_model.specs.declared.grammar.Mark.TheVariants.{Attribute};
+ghost use Rattle.ix_model.specs.Derivations.Derives.{Ambiguous};
 ghost use Rattle.ix_model.specs.Grammars.Breach.{version, code_point, range, class, undefined, duplicate};
 ghost use Rattle.ix_model.specs.Documents.Dyn.{attribute_at_top, not_one_element, bad_name, attribute_xmlns, same_attribute, bad_character};
 ghost use Rattle.ix_model.specs.Answers.Outcome.{no_form, grammar_not_utf8, not_conforming, refused, conforms, failed, message_of};
 ghost use Rattle.ix_model.specs.Answers.Answer.{Answer};
 ghost use Rattle.ix_examples.specs.SmallAnswers.{check_g, parse_g_t, holding, holding_grammar, one_way, both_ways};
+ghost use Rattle.ix_examples.specs.SmallSpellings.{pairs_text};
+ghost use Rattle.ix_examples.specs.SmallRoots.{two_roots, ordinal_way, attribute_ways, lines_way};
 
 /// Words without a form, whatever the files hold.
 pub fn words_refused()
@@ -28,6 +32,33 @@ pub fn texts()
     ensures failed { Answer parse_g_t (holding one_way (codes "ab")) 1 (codes "<fail xmlns:ixml=\"http://invisiblexml.org/NS\" ixml:state=\"failed\" offset=\"1\" line=\"1\" column=\"2\"/>\n") [] }
     ensures no_other_status { (output message : List ℕ) → ¬ (Answer parse_g_t (holding one_way (codes "ab")) 0 output message) }
     ensures not_utf8 { Answer parse_g_t (holding one_way (97 ∷ 195 ∷ [])) 5 [] (codes "ixml: text is not UTF-8 after 1 bytes\n") }
+{}
+
+/// A grammar or a text that is too long, whatever stands in it.
+pub fn long_files()
+    ensures grammar { (bytes : List ℕ) → length bytes ≡ 1048577 → Answer check_g (holding_grammar bytes) 3 [] (codes "ixml: G08: grammar longer than 1048576 bytes\n") }
+    ensures before_text { (bytes : List ℕ) → length bytes ≡ 1048577 → Answer parse_g_t (holding_grammar bytes) 3 [] (codes "ixml: G08: grammar longer than 1048576 bytes\n") }
+    ensures text { (bytes : List ℕ) → length bytes ≡ 16777217 → Answer parse_g_t (holding one_way bytes) 6 [] (codes "ixml: text longer than 16777216 bytes\n") }
+{}
+
+/// A hundred parentheses open at once are a grammar, and one more is too deep.
+pub fn deep_grammars()
+    ensures hundred { Answer check_g (holding_grammar (pairs_text 100)) 0 (codes "ok\n") [] }
+    ensures one_more { Answer check_g (holding_grammar (pairs_text 101)) 3 [] (codes "ixml: G09: more than 100 open parentheses\n") }
+{}
+
+/// A first derivation that is no document, also where there is a second one.
+pub fn refused_texts()
+    ensures name { Answer parse_g_t (holding ordinal_way (codes "a")) 4 [] (codes "ixml: E03: " ++ 194 ∷ 170 ∷ codes " is no XML name\n") }
+    ensures ambiguous { Ambiguous (two_roots (Some Attribute) (codes "S")) (codes "a") }
+    ensures attribute { Answer parse_g_t (holding attribute_ways (codes "a")) 4 [] (codes "ixml: E01: attribute S at the top\n") }
+    ensures no_other_status { (output message : List ℕ) → ¬ (Answer parse_g_t (holding attribute_ways (codes "a")) 0 output message) }
+{}
+
+/// A text that fails on its second line.
+pub fn failed_texts()
+    ensures place { Answer parse_g_t (holding lines_way (codes "a\nc")) 1 (codes "<fail xmlns:ixml=\"http://invisiblexml.org/NS\" ixml:state=\"failed\" offset=\"2\" line=\"2\" column=\"1\"/>\n") [] }
+    ensures no_other_status { (output message : List ℕ) → ¬ (Answer parse_g_t (holding lines_way (codes "a\nc")) 0 output message) }
 {}
 
 /// The lines that name an item.

@@ -1,8 +1,13 @@
-ghost use Rattle.std.specs.Prelude.{◌≡◌, ℕ, List, [], ◌∷◌, codes};
-ghost use Rattle.ix_model.specs.declared.grammar.Term.{One};
-ghost use Rattle.ix_model.specs.Grammars.Breach.{Fault, version, code_point, range, class, undefined, duplicate, IsCodePoint, IsRising, IsKnownClass, IsDefined, Breach, LeastBreach, Conforming};
+ghost use Rattle.std.specs.Prelude.{◌≡◌, ℕ, List, [], ◌∷◌, Some, None, codes};
+ghost use Rattle.ix_model.specs.declared.grammar.Term.{One, Opt, Star, Plus};
+ghost use Rattle.ix_model.specs.declared.grammar.Factor.{Call, Insert};
+ghost use Rattle.ix_model.specs.declared.grammar.Chars.TheVariants.{Code};
+ghost use Rattle.ix_model.specs.declared.grammar.Member.TheVariants as member;
+ghost use Rattle.ix_model.specs.declared.grammar.Bound.TheVariants as bound;
+ghost use Rattle.ix_model.specs.Grammars.Factors.{codes_of, ranges_of, classes_of, calls_of};
+ghost use Rattle.ix_model.specs.Grammars.Breach.{Fault, version, code_point, range, class, undefined, duplicate, code_number, IsCodePoint, IsRising, IsKnownClass, IsDefined, IsRepeated, Breach, LeastBreach, Conforming};
 ghost use Rattle.ix_examples.specs.SmallGrammars.{quoted, call, only_a, hidden, of_term, same_names};
-ghost use Rattle.ix_examples.specs.SmallSpellings.{numbered, from_to, of_version, last_rule_wrong, two_falling, no_characters, of_class, and_undefined, two_repeated, no_rule, in_order};
+ghost use Rattle.ix_examples.specs.SmallSpellings.{numbered, set_of, from_to, of_version, last_rule_wrong, two_falling, no_characters, of_class, and_undefined, two_repeated, no_rule, in_order};
 
 /// Numbers of characters: at most 10FFFF, and no surrogate.
 pub fn numbers_of_characters()
@@ -52,6 +57,64 @@ pub fn least_code_and_first_item()
     ensures not_high { ¬ (Breach no_characters (code_point (codes "110000"))) }
     ensures repeated_first { LeastBreach two_repeated (duplicate (codes "b")) }
     ensures not_first_pair { ¬ (Breach two_repeated (duplicate (codes "S"))) }
+{}
+
+/// The number of each code.
+pub fn numbers_of_codes()
+    ensures version { (text : List ℕ) → code_number (version text) ≡ 2 }
+    ensures code_point { (digits : List ℕ) → code_number (code_point digits) ≡ 3 }
+    ensures range { (low high : ℕ) → code_number (range low high) ≡ 4 }
+    ensures class { (name : List ℕ) → code_number (class name) ≡ 5 }
+    ensures undefined { (name : List ℕ) → code_number (undefined name) ≡ 6 }
+    ensures duplicate { (name : List ℕ) → code_number (duplicate name) ≡ 7 }
+{}
+
+/// Each version but `1.0` is another one, and none is none.
+pub fn other_versions()
+    ensures same { (text : List ℕ) → ¬ (Breach (of_version (codes "1.0") (quoted (codes "a"))) (version text)) }
+    ensures next { Breach (of_version (codes "1.1") (quoted (codes "a"))) (version (codes "1.1")) }
+    ensures longer { Breach (of_version (codes "1.00") (quoted (codes "a"))) (version (codes "1.00")) }
+    ensures shorter { Breach (of_version (codes "1") (quoted (codes "a"))) (version (codes "1")) }
+    ensures empty { Breach (of_version [] (quoted (codes "a"))) (version []) }
+    ensures not_asked { ¬ (Breach (of_version (codes "1.1") (quoted (codes "a"))) (version (codes "1.0"))) }
+    ensures none { (text : List ℕ) → ¬ (Breach only_a (version text)) }
+{}
+
+/// A range may be of one character; it falls where its first is the greater one, however its bounds are written.
+pub fn rising_ranges()
+    ensures same { IsRising (97, 97) }
+    ensures rising { IsRising (97, 98) }
+    ensures falling { ¬ (IsRising (98, 97)) }
+    ensures numbers { ranges_of (of_term (One (set_of (member.Range (bound.Code (codes "7a")) (bound.Code (codes "61")))))) ≡ (0x7A, 0x61) ∷ [] }
+    ensures mixed { ranges_of (of_term (One (set_of (member.Range (bound.Quoted 122) (bound.Code (codes "61")))))) ≡ (0x7A, 0x61) ∷ [] }
+    ensures no_range { ranges_of (of_term (One (set_of (member.Quoted (codes "za"))))) ≡ [] }
+{}
+
+/// A rule is called by its name, as it is written; a rule with a name that an earlier one has repeats it.
+pub fn names_of_rules()
+    ensures own { IsDefined only_a (codes "S") }
+    ensures later { IsDefined hidden (codes "a") }
+    ensures case { ¬ (IsDefined only_a (codes "s")) }
+    ensures longer { ¬ (IsDefined only_a (codes "Sa")) }
+    ensures second { IsRepeated same_names 1 (codes "S") }
+    ensures not_first { ¬ (IsRepeated same_names 0 (codes "S")) }
+    ensures not_third { ¬ (IsRepeated same_names 2 (codes "S")) }
+    ensures item_and_separator { calls_of (of_term (Plus (Call None (codes "b")) (Some (Call None (codes "c"))))) ≡ codes "b" ∷ codes "c" ∷ [] }
+    ensures item_and_separator_of_star { calls_of (of_term (Star (Call None (codes "b")) (Some (Call None (codes "c"))))) ≡ codes "b" ∷ codes "c" ∷ [] }
+    ensures option { calls_of (of_term (Opt (Call None (codes "b")))) ≡ codes "b" ∷ [] }
+    ensures literal { calls_of (of_term (quoted (codes "b"))) ≡ [] }
+{}
+
+/// Numbers are those of literals, insertions, members and bounds, low before high.
+pub fn numbers_in_each_place()
+    ensures literal { codes_of (of_term (numbered (codes "61"))) ≡ codes "61" ∷ [] }
+    ensures insertion { codes_of (of_term (One (Insert (Code (codes "61"))))) ≡ codes "61" ∷ [] }
+    ensures member { codes_of (of_term (One (set_of (member.Code (codes "61"))))) ≡ codes "61" ∷ [] }
+    ensures both_bounds { codes_of (of_term (One (set_of (member.Range (bound.Code (codes "61")) (bound.Code (codes "62")))))) ≡ codes "61" ∷ codes "62" ∷ [] }
+    ensures low_alone { codes_of (of_term (One (set_of (member.Range (bound.Code (codes "61")) (bound.Quoted 98))))) ≡ codes "61" ∷ [] }
+    ensures quoted { codes_of (of_term (quoted (codes "#61"))) ≡ [] }
+    ensures class { classes_of (of_term (One (set_of (member.Class (codes "Lu"))))) ≡ codes "Lu" ∷ [] }
+    ensures no_class { classes_of (of_term (One (set_of (member.Quoted (codes "Lu"))))) ≡ [] }
 {}
 
 /// Grammars that conform, and grammars that do not.

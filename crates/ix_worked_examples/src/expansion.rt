@@ -1,15 +1,19 @@
-ghost use Rattle.std.specs.Prelude.{◌≡◌, ◌≢◌, [], ◌∷◌, true, false, codes};
+ghost use Rattle.std.specs.Prelude.{◌≡◌, ◌≢◌, [], ◌∷◌, true, false, Some, None, codes};
+ghost use Rattle.ix_model.specs.declared.grammar.Mark.TheVariants.{Element, Attribute, Hidden};
 ghost use Rattle.ix_model.specs.declared.grammar.Term.{One};
+ghost use Rattle.ix_model.specs.declared.rules.Kind.TheVariants as kind;
+ghost use Rattle.ix_model.specs.declared.rules.Terminal.TheVariants as terminal;
 ghost use Rattle.ix_model.specs.Derivations.Trees.{text, present, absent, no_item, list, one};
 ghost use Rattle.ix_model.specs.Expansion.FlatTrees.{flat_text, flat_node, no_flat, flats_and, flat_width};
 ghost use Rattle.ix_model.specs.Expansion.FlatDerives.{IsFlatDerivation};
-ghost use Rattle.ix_model.specs.Expansion.Expanded.{Expanded, HasSet};
+ghost use Rattle.ix_model.specs.Expansion.Expanded.{Expanded, HasSet, next_syms};
 ghost use Rattle.ix_model.specs.Expansion.Planned.{IsPlanOf};
 ghost use Rattle.ix_model.specs.Expansion.Lift.{lift};
 ghost use Rattle.ix_model.specs.Expansion.Lower.{lower};
-ghost use Rattle.ix_examples.specs.SmallGrammars.{only_a, of_term, a_or_b, inserted, digits};
+ghost use Rattle.ix_examples.specs.SmallGrammars.{grammar, only_a, of_term, a_or_b, inserted, digits};
 ghost use Rattle.ix_examples.specs.SmallTrees.{a_tree, node_of};
-ghost use Rattle.ix_examples.specs.SmallRules.{helper, range, set_of, insert_rules, a_rules, a_option, option_rules, group_rules, a_list, list_rules, never_empty, a_plan, a_flat, two_items, first_item, two_items_flat};
+ghost use Rattle.ix_examples.specs.SmallRules.{flat, helper, shown, range, set_of, insert_rules, a_rules, a_option, option_rules, group_rules, a_list, list_rules, never_empty, a_plan, a_flat, two_items, first_item, two_items_flat};
+ghost use Rattle.ix_examples.specs.SmallHelpers.{many_helpers, many_rules, nameless};
 
 /// `S: "a".` has one numbered rule, and no helper.
 pub fn rules_of_literal()
@@ -41,6 +45,28 @@ pub fn sets_over_characters()
     ensures one_less { ¬ (HasSet (set_of (range 48 56 ∷ [])) 0 false (digits ∷ [])) }
     ensures all { HasSet (set_of (range 0 55295 ∷ range 57344 1114111 ∷ [])) 0 true [] }
     ensures not_all { ¬ (HasSet (set_of (range 1 1114111 ∷ [])) 0 true []) }
+{}
+
+/// Helpers, terminals and insertions are numbered in one walk: a term's own helper, then those of its item, then those of its separator.
+pub fn rules_in_one_walk()
+    ensures rules { Expanded many_helpers many_rules }
+    ensures other_marks { ¬ (Expanded many_helpers (record many_rules { marks = Hidden ∷ Hidden ∷ [] })) }
+    ensures mark_of_call { ¬ (Expanded many_helpers (record many_rules { marks = Element ∷ Attribute ∷ [] })) }
+    ensures other_names { ¬ (Expanded many_helpers (record many_rules { names = codes "b" ∷ codes "S" ∷ [] })) }
+{}
+
+/// The rules have nothing beyond what the walk numbers.
+pub fn nothing_beyond_the_walk()
+    ensures nothing { Expanded (grammar []) (nameless [] [] []) }
+    ensures rule { ¬ (Expanded (grammar []) (nameless (flat kind.Opt [] ∷ []) [] [])) }
+    ensures terminal { ¬ (Expanded (grammar []) (nameless [] (terminal.Lit (codes "a") ∷ []) [])) }
+    ensures insertion { ¬ (Expanded (grammar []) (nameless [] [] (codes "a" ∷ []))) }
+{}
+
+/// The second alternative of a list is the list, the separator where there is one, and the item.
+pub fn lists_behind_themselves()
+    ensures separator { next_syms 2 (shown 0) (Some (shown 1)) ≡ helper 2 ∷ shown 1 ∷ shown 0 ∷ [] }
+    ensures none { next_syms 2 (shown 0) None ≡ helper 2 ∷ shown 0 ∷ [] }
 {}
 
 /// A plan of `S: "a".`; a text of anything but characters has none.

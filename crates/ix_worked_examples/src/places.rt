@@ -2,6 +2,8 @@ ghost use Rattle.std.specs.Prelude.{◌≡◌, List, [], ◌∷◌, codes};
 ghost use Rattle.ix_model.specs.declared.grammar.Term.{Term};
 ghost use Rattle.ix_model.specs.Grammars.Written.{IsNamed, IsOfRule};
 ghost use Rattle.ix_model.specs.Grammars.Names.{names_of, IsFirstAt, HasUniqueNames};
+ghost use Rattle.ix_model.specs.Answers.Places.{line_after, column_after, line_of, column_of};
+ghost use Rattle.ix_model.specs.Answers.Decoding.{without_mark};
 ghost use Rattle.ix_examples.specs.SmallGrammars.{quoted, only_a, sums, hidden, same_names};
 
 /// Rules, alternatives and terms are counted from 0.
@@ -27,4 +29,26 @@ pub fn first_rule_of_a_name()
     ensures first { IsFirstAt (names_of same_names.rules) (codes "S") 0 }
     ensures not_second { ¬ (IsFirstAt (names_of same_names.rules) (codes "S") 1) }
     ensures other_name { ¬ (IsFirstAt (names_of same_names.rules) (codes "T") 0) }
+{}
+
+/// A line feed ends a line, and no other character does.
+pub fn ends_of_lines()
+    ensures line { line_after (codes "a\nb\n\nc") ≡ 4 }
+    ensures column { column_after (codes "a\nbcd") ≡ 4 }
+    ensures line_behind_feed { line_after (codes "abc\n") ≡ 2 }
+    ensures column_behind_feed { column_after (codes "abc\n") ≡ 1 }
+    ensures other_controls { line_after (9 ∷ 11 ∷ 12 ∷ 13 ∷ 0x85 ∷ 0x2028 ∷ []) ≡ 1 }
+    ensures columns_of_controls { column_after (9 ∷ 11 ∷ 12 ∷ 13 ∷ 0x85 ∷ 0x2028 ∷ []) ≡ 7 }
+    ensures line_within { line_of (codes "a\nb\nc") 2 ≡ 2 }
+    ensures column_within { column_of (codes "ab\ncd") 4 ≡ 2 }
+{}
+
+/// One byte order mark at the front is no character; any other is one.
+pub fn byte_order_marks()
+    ensures front { without_mark (0xFEFF ∷ 97 ∷ []) ≡ 97 ∷ [] }
+    ensures two { without_mark (0xFEFF ∷ 0xFEFF ∷ []) ≡ 0xFEFF ∷ [] }
+    ensures behind { without_mark (97 ∷ 0xFEFF ∷ []) ≡ 97 ∷ 0xFEFF ∷ [] }
+    ensures other { without_mark (0xFFFE ∷ 97 ∷ []) ≡ 0xFFFE ∷ 97 ∷ [] }
+    ensures beside { without_mark (0xFEFE ∷ 97 ∷ []) ≡ 0xFEFE ∷ 97 ∷ [] }
+    ensures nothing { without_mark [] ≡ [] }
 {}

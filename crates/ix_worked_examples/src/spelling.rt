@@ -1,9 +1,9 @@
-ghost use Rattle.std.specs.Prelude.{◌≡◌, ◌≢◌, ◌++◌, ℕ, List, [], ◌∷◌, true, false, codes};
+ghost use Rattle.std.specs.Prelude.{◌≡◌, ◌≢◌, ◌++◌, ℕ, List, [], ◌∷◌, map, true, false, codes};
 ghost use Rattle.ix_model.specs.declared.grammar.Grammar.{Grammar};
 ghost use Rattle.ix_model.specs.Spelling.Characters.{is_blank, is_name_start, is_name_part};
 ghost use Rattle.ix_model.specs.Spelling.Spacing.{S, RS, AllSpacing};
 ghost use Rattle.ix_model.specs.Spelling.Words.{NameAt};
-ghost use Rattle.ix_model.specs.Spelling.Spells.{StringAt, HexAt, IsHex, is_class, Spells};
+ghost use Rattle.ix_model.specs.Spelling.Spells.{StringAt, HexAt, IsHex, is_hex_digit, is_capital, is_small, is_class, Spells};
 ghost use Rattle.ix_examples.specs.SmallGrammars.{quoted, only_a, two_ways, empty};
 ghost use Rattle.ix_examples.specs.SmallSpellings.{forms, forms_text, stop_in_name, by_insertion, of_version};
 
@@ -83,6 +83,46 @@ pub fn classes()
     ensures small { is_class (codes "lu") ≡ false }
     ensures three { is_class (codes "Luu") ≡ false }
     ensures none { is_class [] ≡ false }
+{}
+
+/// A string holds any character but the line feed and the carriage return.
+pub fn strings_on_one_line()
+    ensures tab { StringAt (34 ∷ 9 ∷ 34 ∷ []) [] (9 ∷ []) }
+    ensures vertical_tab { StringAt (34 ∷ 11 ∷ 34 ∷ []) [] (11 ∷ []) }
+    ensures form_feed { StringAt (34 ∷ 12 ∷ 34 ∷ []) [] (12 ∷ []) }
+    ensures shift_out { StringAt (34 ∷ 14 ∷ 34 ∷ []) [] (14 ∷ []) }
+    ensures line_separator { StringAt (34 ∷ 0x2028 ∷ 34 ∷ []) [] (0x2028 ∷ []) }
+    ensures no_line_feed { ¬ (StringAt (39 ∷ 97 ∷ 10 ∷ 39 ∷ []) [] (97 ∷ 10 ∷ [])) }
+    ensures no_carriage_return { ¬ (StringAt (39 ∷ 97 ∷ 13 ∷ 39 ∷ []) [] (97 ∷ 13 ∷ [])) }
+    ensures no_grave { ¬ (StringAt (codes "`a`") [] (codes "a")) }
+{}
+
+/// A hexadecimal digit is a decimal one, or a letter to F of either case.
+pub fn hexadecimal_digits()
+    ensures digits { map is_hex_digit (codes "/09:") ≡ false ∷ true ∷ true ∷ false ∷ [] }
+    ensures capitals { map is_hex_digit (codes "@ABCDEFG") ≡ false ∷ true ∷ true ∷ true ∷ true ∷ true ∷ true ∷ false ∷ [] }
+    ensures small_letters { map is_hex_digit (codes "`abcdefg") ≡ false ∷ true ∷ true ∷ true ∷ true ∷ true ∷ true ∷ false ∷ [] }
+    ensures all_digits { map is_hex_digit (codes "12345678") ≡ true ∷ true ∷ true ∷ true ∷ true ∷ true ∷ true ∷ true ∷ [] }
+{}
+
+/// The letters of a class, at their ends.
+pub fn letters_of_classes()
+    ensures capitals { map is_capital (codes "@AZ[") ≡ false ∷ true ∷ true ∷ false ∷ [] }
+    ensures small_letters { map is_small (codes "`az{") ≡ false ∷ true ∷ true ∷ false ∷ [] }
+    ensures least { is_class (codes "Aa") ≡ true }
+    ensures greatest { is_class (codes "Zz") ≡ true }
+    ensures digit { is_class (codes "L1") ≡ false }
+    ensures small_alone { is_class (codes "l") ≡ false }
+{}
+
+/// A comment ends with its brace, and an open one is no spacing.
+pub fn braces()
+    ensures empty { S (codes "{}a") (codes "a") }
+    ensures lines { S (codes "{a\n}{b} c") (codes "c") }
+    ensures comment_alone { RS (codes "{}a") (codes "a") }
+    ensures not_past_end { ¬ (S (codes "{a}b}") []) }
+    ensures not_open { ¬ (S (codes "{{a}") []) }
+    ensures no_letters { ¬ (S (codes "a b") (codes "b")) }
 {}
 
 /// Characters and the grammar that they spell.
