@@ -2,7 +2,6 @@
 use Rattle.std.proofs.Common.{◌≡◌, ◌⊎◌, ℕ, ◌≤◌, List, arith}
 use mathlib.Core.Logic.{inl, inr}
 use Rattle.ix_model.specs.declared.grammar.Grammar.{Grammar}
-use Rattle.ix_model.specs.Derivations.Trees.{text}
 use Rattle.ix_model.specs.Derivations.Offset.{IsReached, Offset}
 
 -- the greater of two offsets would be reached

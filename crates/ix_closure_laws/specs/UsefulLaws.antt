@@ -1,12 +1,9 @@
 -- Laws of useful subtrees: where they stand in the closure, and what they say of the derivations of the text.
 use Rattle.std.specs.Prelude.{◌≡◌, ◌↔◌, ℕ, ◌+◌, length}
-use Rattle.ix_model.specs.declared.grammar.Grammar.{Grammar}
 use Rattle.ix_model.specs.declared.rules.Sym.{Sym}
 use Rattle.ix_model.specs.declared.sub.Sub.{Sub}
 use Rattle.ix_model.specs.Expansion.Parts.{Parts}
-use Rattle.ix_model.specs.Expansion.Planned.{IsPlanned, IsPlanOf}
-use Rattle.ix_model.specs.Derivations.Trees.{Tree}
-use Rattle.ix_model.specs.Derivations.Derives.{IsDerivation, Ambiguous}
+use Rattle.ix_model.specs.Expansion.Planned.{IsPlanned}
 use Rattle.ix_model.specs.Expansion.FlatTrees.{FlatTree, flat_width}
 use Rattle.ix_model.specs.Expansion.FlatDerives.{FlatDerives, IsFlatDerivation}
 use Rattle.ix_model.specs.Expansion.SlotPlaces.{IsLast}

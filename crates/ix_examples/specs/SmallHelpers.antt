@@ -1,9 +1,8 @@
 -- A grammar with each form of term, and its numbered rules.
-use Rattle.std.specs.Prelude.{ℕ, true, false, List, [], ◌∷◌, Some, None, codes}
+use Rattle.std.specs.Prelude.{ℕ, false, List, [], ◌∷◌, Some, None, codes}
 use Rattle.ix_model.specs.declared.grammar.Grammar.{Grammar}
 use Rattle.ix_model.specs.declared.grammar.Mark.TheVariants.{Element, Attribute, Hidden}
-use Rattle.ix_model.specs.declared.grammar.Alt.{Alt}
-use Rattle.ix_model.specs.declared.grammar.Term.{Term, One, Opt, Star, Plus}
+use Rattle.ix_model.specs.declared.grammar.Term.{One, Opt, Star, Plus}
 use Rattle.ix_model.specs.declared.grammar.Factor.{Factor, Set, Call, Group}
 use Rattle.ix_model.specs.declared.rules.Kind.TheVariants as kind
 use Rattle.ix_model.specs.declared.rules.Sym.{Sym}

@@ -8,7 +8,7 @@ use Rattle.ix_model.specs.declared.grammar.Member.TheVariants as member
 use Rattle.ix_model.specs.declared.grammar.Term.{One, Opt, Star, Plus}
 use Rattle.ix_model.specs.declared.grammar.Factor.{Lit, Set, Call, Insert}
 use Rattle.ix_model.specs.Derivations.Trees.{Tree, text, insertion, node, present, absent, no_item, list, no_tree, and, one, again, again_after}
-use Rattle.ix_examples.specs.SmallGrammars.{alternative, rule, marked_rule, grammar, literal, quoted}
+use Rattle.ix_examples.specs.SmallGrammars.{alternative, rule, marked_rule, grammar, quoted}
 use Rattle.ix_examples.specs.SmallTrees.{node_of}
 
 -- S: @b?, -["x"], +#21, c++d, ^"e"*. b: "1". c: "2". -d: ",".

@@ -1,5 +1,5 @@
 -- Small grammars of one rule with any mark and any name, and files that spell them.
-use Rattle.std.specs.Prelude.{ℕ, List, [], ◌∷◌, ◌++◌, Option, codes}
+use Rattle.std.specs.Prelude.{ℕ, List, [], ◌∷◌, Option, codes}
 use Rattle.ix_model.specs.declared.grammar.Grammar.{Grammar}
 use Rattle.ix_model.specs.declared.grammar.Mark.{Mark}
 use Rattle.ix_model.specs.declared.grammar.Term.{Term}

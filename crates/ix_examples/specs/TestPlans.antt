@@ -9,7 +9,6 @@ use Rattle.ix_model.specs.declared.rules.Terminal.{Terminal}
 use Rattle.ix_model.specs.declared.rules.Terminal.TheVariants as terminal
 use Rattle.ix_model.specs.Expansion.Parts.{Parts}
 use Rattle.ix_model.specs.Expansion.Expanded.{line}
-use Rattle.ix_model.specs.Expansion.Numbering.{numbering}
 use Rattle.ix_examples.specs.SmallPlans.{call, literal, named, plan_of}
 
 -- these literals of one character

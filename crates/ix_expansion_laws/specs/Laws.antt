@@ -1,7 +1,5 @@
 -- Laws of the expansion: derivations over the written grammar and over its numbered rules correspond one to one.
 use Rattle.std.specs.Prelude.{◌≡◌, ◌<◌, ◌^◌, ℕ, List, length, None}
-use Rattle.std.specs.Char.{IsScalar}
-use Rattle.std.specs.List.{AllByRecursion}
 use Rattle.ix_model.specs.declared.grammar.Grammar.{Grammar}
 use Rattle.ix_model.specs.declared.rules.Rules.{Rules}
 use Rattle.ix_model.specs.declared.rules.Sym.TheVariants as sym
@@ -9,7 +7,6 @@ use Rattle.ix_model.specs.Derivations.Trees.{Tree}
 use Rattle.ix_model.specs.declared.step.Step.{Step}
 use Rattle.ix_model.specs.Derivations.Derives.{IsDerivation}
 use Rattle.ix_model.specs.Documents.Gives.{Givens, gives_root}
-use Rattle.ix_model.specs.Grammars.Names.{HasUniqueNames}
 use Rattle.ix_model.specs.Expansion.Parts.{Parts}
 use Rattle.ix_model.specs.Expansion.FlatTrees.{FlatTree}
 use Rattle.ix_model.specs.Expansion.FlatDerives.{IsFlatDerivation}
