@@ -15,7 +15,6 @@ pub fn operands(words: &[String]) -> Option<(&str, &str)>
     }
 }
 
-
 fn is_file_name(word: &str) -> bool
     ensures { IsTrue result ↔ IsFileName word.now }
 {

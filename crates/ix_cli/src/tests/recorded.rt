@@ -46,12 +46,7 @@ impl<F: Files> Files for RecordedFiles<F> {
     }
 }
 
-fn record(
-    alloc: Global,
-    loads: &mut Vec<Load>,
-    name: &str,
-    most: u64,
-) -> Result<(), AllocError> {
+fn record(alloc: Global, loads: &mut Vec<Load>, name: &str, most: u64) -> Result<(), AllocError> {
     loads.push(Load {
         name: String::from_str(alloc, name)?,
         most,
