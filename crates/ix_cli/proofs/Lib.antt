@@ -1,9 +1,9 @@
 pub mod Alternatives
 pub mod LineForms
-pub mod Lines
 pub mod Lists
 pub mod LoadedFiles
 pub mod OneReply
+pub mod PlainLines
 pub mod PlainTrees
 pub mod Refusing
 pub mod Replies

@@ -8,7 +8,7 @@ use Rattle.ix_engine.specs.declared.refusal.Refusal.{Refusal}
 use Rattle.ix_engine.specs.declared.refusal.Refusal.TheVariants as refusal
 use Rattle.ix_model.specs.Answers.Answer.{HoldsConforming, GrammarRefused}
 use Rattle.ix_model.specs.Answers.Outcome.{Outcome, grammar_too_long, grammar_not_utf8, no_grammar, too_deep, not_conforming}
-use Rattle.ix_engine.specs.Compiled.{outcome_of, IsRefused}
+use Rattle.ix_engine.specs.Compiled.{outcome_of, IsRefusalOf}
 use Rattle.ix_cli.specs.Loaded.{Holds, IsGrammarFault}
 use Rattle.ix_cli.specs.Refusals.{of_refusal}
 
@@ -54,7 +54,7 @@ outcome_whole too_deep v bytes e h = (whole_is 1048576 (λ b. GrammarRefused b t
 outcome_whole (not_conforming fault) v bytes e h = (whole_is 1048576 (λ b. GrammarRefused b (not_conforming fault)) (λ b k. k.1.0.0) v bytes e h).1
 outcome_whole o v bytes e h = absurd h
 
-pub refused_whole : (r : Refusal) (v bytes : List ℕ) → v ≡ take 1048577 bytes → IsRefused v r → IsRefused bytes r
+pub refused_whole : (r : Refusal) (v bytes : List ℕ) → v ≡ take 1048577 bytes → IsRefusalOf v r → IsRefusalOf bytes r
 refused_whole refusal.FileTooLong v bytes e h = outcome_whole (outcome_of refusal.FileTooLong) v bytes e h
 refused_whole (refusal.NotUtf8 valid) v bytes e h = outcome_whole (outcome_of (refusal.NotUtf8 valid)) v bytes e h
 refused_whole refusal.NotIxml v bytes e h = outcome_whole (outcome_of refusal.NotIxml) v bytes e h
@@ -68,7 +68,7 @@ refused_whole (refusal.Duplicate name) v bytes e h = outcome_whole (outcome_of (
 refused_whole refusal.Memory v bytes e h = tt
 
 -- the answer that a refused grammar is has its cause
-pub refusal_caused : (told : Option Told) (old new : List ℕ → ℕ) (name : List ℕ) (r : Refusal) → Holds told name (λ bytes. IsRefused bytes r) → IsGrammarFault told old new name (of_refusal r)
+pub refusal_caused : (told : Option Told) (old new : List ℕ → ℕ) (name : List ℕ) (r : Refusal) → Holds told name (λ bytes. IsRefusalOf bytes r) → IsGrammarFault told old new name (of_refusal r)
 refusal_caused told old new name refusal.FileTooLong h = ((λ e. cc e), h)
 refusal_caused told old new name (refusal.NotUtf8 valid) h = ((λ e. cc e), h)
 refusal_caused told old new name refusal.NotIxml h = ((λ e. cc e), h)

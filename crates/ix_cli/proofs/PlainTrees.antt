@@ -21,7 +21,7 @@ use Rattle.ix_model.specs.declared.state.State.TheVariants.{Single}
 use Rattle.ix_model.specs.Documents.Xml.{xml}
 use Rattle.ix_model.proofs.Forming.{factor_of_one}
 use Rattle.ix_model.proofs.Forms.{derived_form, out_lit, out_set}
-use Rattle.ix_cli.proofs.Lines.{matches_once, plain_form, plain_tree, plain_at}
+use Rattle.ix_cli.proofs.PlainLines.{matches_once, plain_form, plain_tree, plain_at}
 use Rattle.ix_cli.proofs.Runs.{AreTexts, AreTexts-join, values-join, gives_all-texts}
 use Rattle.ix_cli.specs.Once.{HasPlainRule, IsOnly, IsOnlyDocument, DerivesAs, IsOnlyAlternative}
 use Rattle.ix_cli.proofs.Alternatives.{plain_alt_at}

@@ -10,7 +10,7 @@ use Rattle.ix_cli.specs.declared.answer.Answer.{Answer}
 use Rattle.ix_cli.specs.declared.answer.Answer.TheVariants as answer
 use Rattle.ix_cli.specs.Answered.{IsAnswered, IsMessage}
 use Rattle.ix_cli.specs.Form.{HasSomeForm}
-use Rattle.ix_cli.specs.Refused.{IsRefused}
+use Rattle.ix_cli.specs.Refused.{IsDocumentRefused}
 use Rattle.ix_cli.specs.Reply.{Reply, reply, not_built, status_of, output_of, line_of, IsReply}
 use Rattle.ix_cli.specs.Says.{Says, Refuses}
 
@@ -26,7 +26,7 @@ module _ (words : List (List ℕ)) (out mo mn : Option (List ℕ)) (before now :
   words_replied (Some files) h = inl (h, refl)
 
   -- a refusal other than by a fault or for want of memory is the table's answer
-  pub refused_answered : (told : Option Told) (old new : List ℕ → ℕ) (a : Answer) (status : ℕ) → IsRefused words told old new a → Refuses mo mn before now a status →
+  pub refused_answered : (told : Option Told) (old new : List ℕ → ℕ) (a : Answer) (status : ℕ) → IsDocumentRefused words told old new a → Refuses mo mn before now a status →
       status ≢ 7 → status ≢ 8 → status ≢ 9 → IsAnswered words told out out status (Says mo mn before now)
   refused_answered told old new answer.Words status h (inl r) a b c = replied told (reply no_form) status (words_replied told h) r.0 refl r.1
   refused_answered told old new answer.NotBuilt status h (inl r) a b c = replied told not_built status h.1 r.0 refl r.1

@@ -19,7 +19,7 @@ use Rattle.ix_cli.specs.Loaded.{Holds, IsGrammarFault, IsTextFault}
 use Rattle.ix_cli.specs.Once.{IsOnly, IsOnlyDocument}
 use Rattle.ix_cli.specs.PlainGrammar.{IsPlainGrammar}
 use Rattle.ix_cli.specs.PlainText.{IsPlainText}
-use Rattle.ix_cli.specs.Refused.{IsRefused}
+use Rattle.ix_cli.specs.Refused.{IsDocumentRefused}
 use Rattle.ix_cli.specs.Reply.{Reply, reply, not_built, IsTextReply, IsReply, HasDocument}
 
 -- a count that rose later rose
@@ -28,7 +28,7 @@ rose_since old mid new l r = omega (arith, l, r)
 
 module _ (words : List (List ℕ)) (grammar text : List ℕ) (form : HasForm words grammar text) where
   -- a grammar that was not loaded
-  pub grammar_refused : (told : Option Told) (old new : List ℕ → ℕ) (a : Answer) → IsGrammarFault told old new grammar a → IsRefused words told old new a
+  pub grammar_refused : (told : Option Told) (old new : List ℕ → ℕ) (a : Answer) → IsGrammarFault told old new grammar a → IsDocumentRefused words told old new a
   grammar_refused None old new answer.NotBuilt h = ((grammar, text, form), tt)
   grammar_refused (Some files) old new answer.NotBuilt h =
       ((grammar, text, form), inr (grammar, text, form, (h.0, h.1, inr (h.2.0, h.2.1, inl (h.2.2, refl)))))
@@ -44,7 +44,7 @@ module _ (words : List (List ℕ)) (grammar text : List ℕ) (form : HasForm wor
   module _ (g : Grammar) (plain : IsPlainGrammar g) where
     -- a text that was not loaded
     pub text_refused : (told : Option Told) (old mid new : List ℕ → ℕ) (a : Answer) → Holds told grammar (λ bytes. HoldsConforming bytes g) → old text ≤ mid text →
-        IsTextFault told mid new text a → IsRefused words told old new a
+        IsTextFault told mid new text a → IsDocumentRefused words told old new a
     text_refused None old mid new answer.NotBuilt s l h = ((grammar, text, form), tt)
     text_refused (Some files) old mid new answer.NotBuilt s l h =
         ((grammar, text, form), inr (grammar, text, form, (s.0, s.1, inr (g, s.2, inr (plain, (h.0, h.1, λ p. h.2 p.0))))))
@@ -77,11 +77,11 @@ module _ (words : List (List ℕ)) (grammar text : List ℕ) (form : HasForm wor
     -- the answer of the search
     pub search_refused : (told : Option Told) (old new : List ℕ → ℕ) (chars : List ℕ) (r : Result (String Global) Answer) → Holds told grammar (λ b. HoldsConforming b g) →
         Holds told text (λ b. (b ≡ chars) × IsPlainText b) → IfErr r (λ a. (a ≡ answer.NotBuilt) ⊎ (a ≡ answer.Memory)) →
-        (r ≡ Err answer.NotBuilt → (d : Tree) → IsOnly g chars d → ⊥) → IfErr r (IsRefused words told old new)
+        (r ≡ Err answer.NotBuilt → (d : Tree) → IsOnly g chars d → ⊥) → IfErr r (IsDocumentRefused words told old new)
     search_refused told old new chars (Ok v) s h e n = tt
     search_refused told old new chars (Err a) s h (inl e) n =
-        subst (IsRefused words told old new) (sym e) ((grammar, text, form), not_one_replied told chars s h (n (ap Err e)))
-    search_refused told old new chars (Err a) s h (inr e) n = subst (IsRefused words told old new) (sym e) tt
+        subst (IsDocumentRefused words told old new) (sym e) ((grammar, text, form), not_one_replied told chars s h (n (ap Err e)))
+    search_refused told old new chars (Err a) s h (inr e) n = subst (IsDocumentRefused words told old new) (sym e) tt
 
 -- what is true of the error that is handed on is true of the result
 pub handed_on : {T : Type 0} (r : Result T Answer) (P : Answer → Type 0) (a : Answer) → IsErrAnd r (λ x. x ≡ a) → P a → IfErr r P

@@ -10,10 +10,10 @@ use Rattle.ix_engine.specs.Compiled.{outcome_of}
 use Rattle.ix_cli.specs.Unread.{IsUnread}
 
 -- the counts are those before and after the files were read
-abbrev pub IsRefused : List (List ℕ) → Option Told → (List ℕ → ℕ) → (List ℕ → ℕ) → Answer → Type 0
-IsRefused words told old new answer.Words = ¬ (HasSomeForm words)
-IsRefused words told old new (answer.Grammar r) = HasSomeForm words × (r ≢ refusal.Memory) × IfSome told (λ files. IsReply words files (reply (outcome_of r)))
-IsRefused words told old new answer.NotBuilt = HasSomeForm words × IfSome told (λ files. IsReply words files not_built)
-IsRefused words told old new (answer.Read name) = IsUnread words told old new (string_bytes name)
-IsRefused words told old new answer.Write = ⊥
-IsRefused words told old new answer.Memory = Unit {0}
+abbrev pub IsDocumentRefused : List (List ℕ) → Option Told → (List ℕ → ℕ) → (List ℕ → ℕ) → Answer → Type 0
+IsDocumentRefused words told old new answer.Words = ¬ (HasSomeForm words)
+IsDocumentRefused words told old new (answer.Grammar r) = HasSomeForm words × (r ≢ refusal.Memory) × IfSome told (λ files. IsReply words files (reply (outcome_of r)))
+IsDocumentRefused words told old new answer.NotBuilt = HasSomeForm words × IfSome told (λ files. IsReply words files not_built)
+IsDocumentRefused words told old new (answer.Read name) = IsUnread words told old new (string_bytes name)
+IsDocumentRefused words told old new answer.Write = ⊥
+IsDocumentRefused words told old new answer.Memory = Unit {0}

@@ -4,7 +4,7 @@ ghost use Rattle.ix_edge.specs.Causes.{Rose};
 ghost use Rattle.ix_cli.specs.Answered.{IsAnswered, IsCutOff, IsMessage};
 ghost use Rattle.ix_cli.specs.Form.{HasForm, HasSomeForm};
 ghost use Rattle.ix_cli.specs.Lines.{read_line};
-ghost use Rattle.ix_cli.specs.Refused.{IsRefused};
+ghost use Rattle.ix_cli.specs.Refused.{IsDocumentRefused};
 ghost use Rattle.ix_cli.specs.Reply.{HasDocument};
 ghost use Rattle.ix_cli.specs.Says.{Says};
 ghost use Rattle.ix_cli.specs.Unread.{IsUnread};
@@ -73,7 +73,7 @@ fn document<F: Files>(alloc: Global, words: &[String], files: &mut F) -> Result<
     ensures form { IfOk result (λ _. HasSomeForm (map string_bytes words.now)) }
     ensures some { IfOk result (λ text. 0 < length (string_bytes text)) }
     ensures ok { IfOk result (λ text. IfSome (F.told files.old) (λ told. HasDocument (map string_bytes words.now) told (string_bytes text))) }
-    ensures err { IfErr result (IsRefused (map string_bytes words.now) (F.told files.old) (F.faults files.old) (F.faults files.new)) }
+    ensures err { IfErr result (IsDocumentRefused (map string_bytes words.now) (F.told files.old) (F.faults files.old) (F.faults files.new)) }
     ensures same { F.told files.new ≡ F.told files.old }
     ensures later { (name : List ℕ) → F.faults files.old name ≤ F.faults files.new name }
 {

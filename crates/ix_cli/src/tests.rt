@@ -1,8 +1,11 @@
 ghost use Rattle.std.specs.Prelude.{◌≡◌, IfOk, IsTrue};
 ghost use Rattle.ix_edge.specs.Entries.{names_differ};
 
+mod recorded;
+
 use crate::{Answer, message, run_alone};
 use ix_edge::{Entry, Files, MemFiles, MemSink, Sink, SureFiles};
+use recorded::RecordedFiles;
 use std::alloc::{AllocError, Global};
 use std::test::Fail;
 
@@ -298,6 +301,47 @@ fn refuses_words_of_no_form(rt: HostRuntime) -> Result<(), Fail> {
         );
         assert_eq!(rt; out.bytes(), b"".as_slice(), "{line}");
         assert_eq!(rt; msg.bytes(), WORDS, "{line}");
+    }
+    Ok(())
+}
+
+// One byte more than a grammar and a text may have.
+const GRAMMAR: (&str, u64) = ("g", 1_048_577);
+
+const TEXT: (&str, u64) = ("t", 4_097);
+
+// Each row: the words, the grammar, and the loads that they lead to. A text is loaded only for a grammar that is answered.
+#[test]
+fn loads_the_grammar_and_then_the_text(rt: HostRuntime) -> Result<(), Fail> {
+    let alloc = rt.alloc();
+    for (line, grammar, want) in [
+        (
+            "parse g t",
+            b"S: \"a\".".as_slice(),
+            [GRAMMAR, TEXT].as_slice(),
+        ),
+        (
+            "parse g t",
+            b"S: \"b\".".as_slice(),
+            [GRAMMAR, TEXT].as_slice(),
+        ),
+        ("parse g t", b"S: a.".as_slice(), [GRAMMAR].as_slice()),
+        ("parse g t", b"S".as_slice(), [GRAMMAR].as_slice()),
+        ("parse g t", b"\xC3".as_slice(), [GRAMMAR].as_slice()),
+        ("parse g t", b"^S: \"a\".".as_slice(), [GRAMMAR].as_slice()),
+        ("parse g", b"S: \"a\".".as_slice(), [].as_slice()),
+    ] {
+        let inner = SureFiles::new(entries(alloc, grammar, b"a")?);
+        let mut files = RecordedFiles::new(alloc, inner);
+        let mut out = MemSink::new(alloc, 64, Vec::new(alloc), 0)?;
+        let mut msg = MemSink::new(alloc, 128, Vec::new(alloc), 0)?;
+        let words = words(alloc, line)?;
+        let status = run_alone(alloc, &words, &mut files, &mut out, &mut msg);
+        assert_eq!(rt; files.loads().len(), want.len(), "{line}: {status}");
+        for (load, (name, most)) in files.loads().iter().zip(want.iter()) {
+            assert_eq!(rt; load.name.as_str(), *name, "{line}: {status}");
+            assert_eq!(rt; load.most, *most, "{line}: {status}");
+        }
     }
     Ok(())
 }

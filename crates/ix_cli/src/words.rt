@@ -1,5 +1,5 @@
 ghost use Rattle.std.specs.Prelude.{◌≡◌, ℕ, List, None, IfSome, map, string_bytes, IsTrue, ◌↔◌};
-ghost use Rattle.ix_cli.specs.Form.{HasForm, IsOperand};
+ghost use Rattle.ix_cli.specs.Form.{HasForm, IsFileName};
 
 /// The names of the grammar and the text, where the words have the form `parse GRAMMAR TEXT`.
 pub fn operands(words: &[String]) -> Option<(&str, &str)>
@@ -9,15 +9,14 @@ pub fn operands(words: &[String]) -> Option<(&str, &str)>
     match words {
         [command, grammar, text]
             if command.as_str() == "parse"
-                && is_operand(grammar.as_str())
-                && is_operand(text.as_str()) => { Some((grammar.as_str(), text.as_str())) }
+                && is_file_name(grammar.as_str())
+                && is_file_name(text.as_str()) => { Some((grammar.as_str(), text.as_str())) }
         _ => None,
     }
 }
 
-
-fn is_operand(word: &str) -> bool
-    ensures { IsTrue result ↔ IsOperand word.now }
+fn is_file_name(word: &str) -> bool
+    ensures { IsTrue result ↔ IsFileName word.now }
 {
     word.as_bytes().first() != Some(&b'-')
 }

@@ -1,4 +1,4 @@
-ghost use Rattle.std.specs.Prelude.{◌≡◌, IfOk, IfErr, find, position, take};
+ghost use Rattle.std.specs.Prelude.{◌≡◌, ◌≤◌, IfOk, IfErr, find, length, position, take};
 ghost use Rattle.std.specs.Option.{option_copied};
 
 use crate::LoadFault;
@@ -30,6 +30,7 @@ pub(crate) fn place_of(entries: &[Entry], name: &str) -> Option<usize>
 
 /// The first `most` of the bytes, or all of them if there are fewer.
 pub(crate) fn front_of(alloc: Global, bytes: &[u8], most: u64) -> Result<Vec<u8>, LoadFault>
+    ensures few { IfOk result (λ v. length v.items ≤ most) }
     ensures ok { IfOk result (λ v. v.items ≡ take most bytes.now) }
     ensures err { IfErr result (λ e. e ≡ Memory) }
 {

@@ -1,4 +1,4 @@
-ghost use Rattle.std.specs.Prelude.{◌≡◌, ◌≤◌, ℕ, List, Option, IfSome, IsErrOf};
+ghost use Rattle.std.specs.Prelude.{◌≡◌, ◌≤◌, ℕ, List, Option, length, IfOk, IfSome, IsErrOf};
 ghost use Rattle.ix_edge.specs.declared.fault.LoadFault.TheVariants.{Failed};
 ghost use Rattle.ix_edge.specs.Causes.{Rose};
 ghost use Rattle.ix_edge.specs.Told.{Told, Loads};
@@ -23,6 +23,7 @@ pub trait Files {
     /// `Failed` comes only where the count of this very name rose, and always where the files are known to
     /// lack it. `Memory` may come at any load.
     fn load(&mut self, alloc: Global, name: &str, most: u64) -> Result<Vec<u8>, LoadFault>
+        ensures few { IfOk result (λ v. length v.items ≤ most) }
         ensures bytes { IfSome (told self.old) (λ files. Loads files name.now most result) }
         ensures same { told self.new ≡ told self.old }
         ensures later { (other : List ℕ) → faults self.old other ≤ faults self.new other }

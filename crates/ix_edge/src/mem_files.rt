@@ -41,7 +41,7 @@ impl MemFiles {
 }
 
 impl Files for MemFiles {
-    ghost use Rattle.std.specs.Prelude.{Some, false, IsErrOf};
+    ghost use Rattle.std.specs.Prelude.{Some, false, length, IfOk, IsErrOf};
     ghost use Rattle.ix_edge.specs.Entries.{told_by};
     ghost use Rattle.ix_edge.specs.MemFiles.{LoadsByNumber};
     ghost use Rattle.ix_edge.specs.Told.{Loads};
@@ -61,6 +61,7 @@ impl Files for MemFiles {
     /// A load whose number is to fail is `Failed`, and so is a load of a name that no entry has. The entry's own
     /// count rises then, or the one count of all missing names. At `Memory` nothing has changed.
     fn load(&mut self, alloc: Global, name: &str, most: u64) -> Result<Vec<u8>, LoadFault>
+        ensures few { IfOk result (λ v. length v.items ≤ most) }
         ensures bytes { Loads (told_by false self.old.entries.items) name.now most result }
         ensures same { Some (told_by false self.new.entries.items) ≡ Some (told_by false self.old.entries.items) }
         ensures later { (other : List ℕ) → count_in self.old.entries.items self.old.missing other

@@ -1,4 +1,4 @@
-ghost use Rattle.std.specs.Prelude.{◌≡◌, IfOk, IfErr, IsTrue, take};
+ghost use Rattle.std.specs.Prelude.{◌≡◌, ◌≤◌, IfOk, IfErr, IsTrue, length, take};
 ghost use Rattle.ix_edge.specs.declared.fault.LoadFault.TheVariants.{Memory};
 ghost use Rattle.ix_edge.specs.Entries.{held_by, names_differ};
 
@@ -47,6 +47,7 @@ impl Files for SureFiles {
 
 fn loaded(alloc: Global, entries: &[Entry], name: &str, most: u64) -> Result<Vec<u8>, LoadFault>
     ensures err { IfErr result (λ e. e ≡ Memory) }
+    ensures few { IfOk result (λ v. length v.items ≤ most) }
     ensures ok { IfOk result (λ v. v.items ≡ take most (held_by entries.now name.now)) }
 {
     match entry_named(entries, name) {

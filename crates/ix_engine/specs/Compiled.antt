@@ -21,6 +21,6 @@ outcome_of (refusal.Duplicate name) = not_conforming (duplicate name)
 outcome_of refusal.Memory = no_form
 
 -- the refusal applies, and none before it does; memory may run out
-abbrev pub IsRefused : List ℕ → Refusal → Type 0
-IsRefused bytes refusal.Memory = Unit {0}
-IsRefused bytes r = GrammarRefused bytes (outcome_of r)
+abbrev pub IsRefusalOf : List ℕ → Refusal → Type 0
+IsRefusalOf bytes refusal.Memory = Unit {0}
+IsRefusalOf bytes r = GrammarRefused bytes (outcome_of r)

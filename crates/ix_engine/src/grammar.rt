@@ -2,7 +2,7 @@ ghost use Rattle.std.specs.Prelude.{◌≤◌, IfOk, IfErr};
 ghost use Rattle.ix_model.specs.Answers.Answer.{HoldsConforming};
 ghost use Rattle.ix_model.specs.Grammars.Breach.{Conforming};
 ghost use Rattle.ix_model.specs.Grammars.Size.{size};
-ghost use Rattle.ix_engine.specs.Compiled.{IsRefused};
+ghost use Rattle.ix_engine.specs.Compiled.{IsRefusalOf};
 
 use crate::refusal::Refusal;
 use ix_edge::decode;
@@ -23,7 +23,7 @@ pub fn compile(alloc: Global, bytes: &[u8]) -> Result<Grammar, Refusal>
     ensures ok { IfOk result (HoldsConforming bytes.now) }
     ensures conforming { IfOk result (λ g. Conforming g) }
     ensures small { IfOk result (λ g. size g ≤ 1048576) }
-    ensures err { IfErr result (IsRefused bytes.now) }
+    ensures err { IfErr result (IsRefusalOf bytes.now) }
 {
     if bytes.len() > MOST {
         return Err(Refusal::FileTooLong);

@@ -13,7 +13,7 @@ use Rattle.ix_spelling_laws.proofs.TokenFacts.{token_read}
 use Rattle.ix_lex.specs.declared.token.Tok.{Tok}
 use Rattle.ix_lex.specs.declared.token.Tok.TheVariants as tok
 use Rattle.ix_lex.specs.Spans.{content, lexeme_by}
-use Rattle.ix_lex.specs.First.{Stands, IsFirst}
+use Rattle.ix_lex.specs.First.{Stands, IsFirstToken}
 
 -- a token by its own characters
 pub by_characters : (c a r : List ℕ) (given : Option (Lexeme × List ℕ)) (kind : Tok) (n : ℕ) → c ≡ a ++ r → length a ≡ n → 0 < n → given ≡ Some (lexeme_by kind a, r) → Stands c given kind n
@@ -89,16 +89,16 @@ number_first c n l some = go (digits_of c).0 (digits_of c).1 (digits_are c).0 l
 -- ---- marks
 
 twice_first : (x : ℕ) (c : List ℕ) (one two : Lexeme) (twice : Tok) → lexeme_by tok.Punct (x ∷ []) ≡ one → lexeme_by twice (x ∷ x ∷ []) ≡ two
-    → IsFirst (x ∷ c) (if begins x c then Some (two, rest_of c) else Some (one, c)) (Some (if begins x c then (twice, 2) else (tok.Punct, 1)))
+    → IsFirstToken (x ∷ c) (if begins x c then Some (two, rest_of c) else Some (one, c)) (Some (if begins x c then (twice, 2) else (tok.Punct, 1)))
 twice_first x [] one two twice e f = by_characters (x ∷ []) (x ∷ []) [] _ tok.Punct 1 refl refl (omega arith) (ap (λ (k : Lexeme). Some (k, [])) (sym e))
 twice_first x (y ∷ c) one two twice e f =
-    elim (y == x) as (λ b. (y == x) ≡ b → IsFirst (x ∷ y ∷ c) (if b then Some (two, c) else Some (one, y ∷ c)) (Some (if b then (twice, 2) else (tok.Punct, 1)))) [
+    elim (y == x) as (λ b. (y == x) ≡ b → IsFirstToken (x ∷ y ∷ c) (if b then Some (two, c) else Some (one, y ∷ c)) (Some (if b then (twice, 2) else (tok.Punct, 1)))) [
       | true ↦ λ h. by_characters (x ∷ y ∷ c) (x ∷ x ∷ []) c _ twice 2 (ap (λ (z : ℕ). x ∷ z ∷ c) (eqb-true y x h)) refl (omega arith) (ap (λ (k : Lexeme). Some (k, c)) (sym f))
       | false ↦ λ _. by_characters (x ∷ y ∷ c) (x ∷ []) (y ∷ c) _ tok.Punct 1 refl refl (omega arith) (ap (λ (k : Lexeme). Some (k, y ∷ c)) (sym e))
     ] refl
 
-pub star_first : (c : List ℕ) → IsFirst (42 ∷ c) (if begins 42 c then Some (stars, rest_of c) else Some (star, c)) (Some (if begins 42 c then (tok.Stars, 2) else (tok.Punct, 1)))
+pub star_first : (c : List ℕ) → IsFirstToken (42 ∷ c) (if begins 42 c then Some (stars, rest_of c) else Some (star, c)) (Some (if begins 42 c then (tok.Stars, 2) else (tok.Punct, 1)))
 star_first c = twice_first 42 c star stars tok.Stars refl refl
 
-pub plus_first : (c : List ℕ) → IsFirst (43 ∷ c) (if begins 43 c then Some (pluses, rest_of c) else Some (plus, c)) (Some (if begins 43 c then (tok.Pluses, 2) else (tok.Punct, 1)))
+pub plus_first : (c : List ℕ) → IsFirstToken (43 ∷ c) (if begins 43 c then Some (pluses, rest_of c) else Some (plus, c)) (Some (if begins 43 c then (tok.Pluses, 2) else (tok.Punct, 1)))
 plus_first c = twice_first 43 c plus pluses tok.Pluses refl refl

@@ -11,9 +11,9 @@ pub record Stands (c : List ℕ) (given : Option (Lexeme × List ℕ)) (kind : T
   pub read : given ≡ Some (lexeme_by kind (take taken c), drop taken c)
 
 -- what is read of c as `given` is told by its kind and length, or there is none
-abbrev pub IsFirst : List ℕ → Option (Lexeme × List ℕ) → Option (Tok × ℕ) → Type 0
-IsFirst c given None = given ≡ None
-IsFirst c given (Some v) = Stands c given v.0 v.1
+abbrev pub IsFirstToken : List ℕ → Option (Lexeme × List ℕ) → Option (Tok × ℕ) → Type 0
+IsFirstToken c given None = given ≡ None
+IsFirstToken c given (Some v) = Stands c given v.0 v.1
 
 -- whether there is a value
 abbrev pub is_there : Option Lexeme → Bool

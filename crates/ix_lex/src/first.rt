@@ -3,7 +3,7 @@
 ghost use Rattle.std.specs.Prelude.{◌≡◌, ◌∷◌, ◌<◌, ◌^◌, length, if◌then◌else◌, IsTrue, Some, codes, option_map};
 ghost use Rattle.ix_model.specs.Spelling.Characters.{is_one_of};
 ghost use Rattle.ix_spelling_laws.specs.Reading.Lexing.{begins, digits_of, hex_of, mark_of, next, plus, pluses, quote, quoted, rest_of, star, stars};
-ghost use Rattle.ix_lex.specs.First.{IsFirst, is_there};
+ghost use Rattle.ix_lex.specs.First.{IsFirstToken, is_there};
 
 use crate::characters::{is_name_start, is_quote};
 use crate::strings::string_len;
@@ -14,7 +14,7 @@ use crate::words::{digit_count, word_len};
 #[tactic(auto, using(crate::proofs::Lexemes::string_first, crate::proofs::Lexemes::no_string))]
 fn string(q: char, rest: &[char]) -> Option<(Tok, usize)>
     requires { IsTrue (is_one_of (codes "\"'") q) }
-    ensures { IsFirst (q ∷ rest.now) (option_map (λ v. (quote v.0, v.1)) (quoted q rest.now)) result }
+    ensures { IsFirstToken (q ∷ rest.now) (option_map (λ v. (quote v.0, v.1)) (quoted q rest.now)) result }
 {
     let n = string_len(q, rest)?;
     Some((Tok::Quote, n + 1))
@@ -23,7 +23,7 @@ fn string(q: char, rest: &[char]) -> Option<(Tok, usize)>
 /// The number behind its `#`.
 #[tactic(auto, using(crate::proofs::Lexemes::number_first))]
 fn number(rest: &[char]) -> Option<(Tok, usize)>
-    ensures { IsFirst (35 ∷ rest.now) (hex_of (digits_of rest.now)) result }
+    ensures { IsFirstToken (35 ∷ rest.now) (hex_of (digits_of rest.now)) result }
 {
     let n = digit_count(rest);
     if n == 0 {
@@ -46,7 +46,7 @@ fn begins(c: char, rest: &[char]) -> bool
 /// `**` or `*`, behind its first character.
 #[tactic(auto, using(crate::proofs::Lexemes::star_first))]
 fn star(rest: &[char]) -> Option<(Tok, usize)>
-    ensures { IsFirst (42 ∷ rest.now) (if begins 42 rest.now then Some (stars, rest_of rest.now) else Some (star, rest.now)) result }
+    ensures { IsFirstToken (42 ∷ rest.now) (if begins 42 rest.now then Some (stars, rest_of rest.now) else Some (star, rest.now)) result }
 {
     Some(if begins('*', rest) {
         (Tok::Stars, 2)
@@ -58,7 +58,7 @@ fn star(rest: &[char]) -> Option<(Tok, usize)>
 /// `++` or `+`, behind its first character.
 #[tactic(auto, using(crate::proofs::Lexemes::plus_first))]
 fn plus(rest: &[char]) -> Option<(Tok, usize)>
-    ensures { IsFirst (43 ∷ rest.now) (if begins 43 rest.now then Some (pluses, rest_of rest.now) else Some (plus, rest.now)) result }
+    ensures { IsFirstToken (43 ∷ rest.now) (if begins 43 rest.now then Some (pluses, rest_of rest.now) else Some (plus, rest.now)) result }
 {
     Some(if begins('+', rest) {
         (Tok::Pluses, 2)
@@ -81,7 +81,7 @@ fn is_mark(c: char) -> bool
 #[tactic(auto, using(crate::proofs::Lexemes::word_first))]
 pub fn first_token(text: &[char]) -> Option<(Tok, usize)>
     requires small { length text.now < 2 ^ 32 }
-    ensures { IsFirst text.now (next text.now) result }
+    ensures { IsFirstToken text.now (next text.now) result }
 {
     match text {
         [] => None,

@@ -1,6 +1,7 @@
 //! Strings: how long one is, and its content.
 
-ghost use Rattle.std.specs.Prelude.{◌≡◌, ◌≤◌, length, drop, option_map, OnOk, IfOk, IfSome, Some};
+ghost use Rattle.std.specs.Prelude.{◌≡◌, ◌≤◌, [], length, drop, option_map, OnOk, IfOk, IfSome, Some};
+ghost use Rattle.ix_model.specs.Spelling.Spells.{StringAt};
 ghost use Rattle.ix_spelling_laws.specs.Reading.Lexing.{quoted};
 ghost use Rattle.ix_lex.specs.Scans.{added, breaks};
 ghost use Rattle.ix_lex.specs.Spans.{content};
@@ -63,7 +64,8 @@ fn unescaped(alloc: Global, q: char, text: &[char]) -> Result<Text, AllocError>
 /// The content of a string that stands with its quotes: each doubled quote is one.
 pub fn unquote(alloc: Global, chars: &[char]) -> Result<Text, AllocError>
     requires string { IsString chars.now }
-    ensures { IfOk result (λ t. t ≡ content chars.now) }
+    ensures content { IfOk result (λ t. t ≡ content chars.now) }
+    ensures spelled { IfOk result (λ t. StringAt chars.now [] t) }
 {
     unescaped(alloc, chars[0], &chars[1..])
 }

@@ -3,6 +3,11 @@
 //! What it writes and answers is decided by `ix_cli`. Here stands only what reaches the system.
 #![tactic(auto)]
 
+ghost use Rattle.std.specs.Prelude.{◌≡◌, ◌≢◌, ◌⊎◌};
+ghost use Rattle.std.specs.IoError.{error_kind};
+ghost use Rattle.std.specs.declared.io.ErrorKind.TheVariants.{OutOfMemory};
+ghost use Rattle.ix_cli.specs.Says.{Refuses};
+
 mod files;
 mod stream;
 #[cfg(test)]
@@ -35,12 +40,25 @@ fn words_of<R: Env + AllocGlobal>(rt: &R, alloc: Global) -> io::Result<Vec<Strin
     Ok(env::args(rt)?.skip(1).collect(alloc)?)
 }
 
-// Says why the words could not be had: there was no memory for them, or they are no UTF-8.
-fn refuse_words<M: Sink>(alloc: Global, error: &io::Error, msg: &mut M) -> u8 {
-    let answer = if error.kind() == io::ErrorKind::OutOfMemory {
+// What is answered where the words could not be had: there was no memory for them, or they are no UTF-8.
+fn answer_for(error: &io::Error) -> Answer
+    ensures memory { error_kind error.now ≡ OutOfMemory → result ≡ Answer.Memory }
+    ensures words { error_kind error.now ≢ OutOfMemory → result ≡ Answer.Words }
+{
+    if error.kind() == io::ErrorKind::OutOfMemory {
         Answer::Memory
     } else {
         Answer::Words
-    };
-    ix_cli::refuse(alloc, &answer, msg)
+    }
+}
+
+// Says why the words could not be had. The status is 9 where memory ran out, and otherwise 2, or 9 where there is no
+// memory for the line.
+fn refuse_words<M: Sink>(alloc: Global, error: &io::Error, msg: &mut M) -> u8
+    ensures memory { error_kind error.now ≡ OutOfMemory → result ≡ 9 }
+    ensures status { (result ≡ 2) ⊎ (result ≡ 9) }
+    ensures told { error_kind error.now ≢ OutOfMemory →
+        Refuses (M.written msg.old) (M.written msg.new) (M.faults msg.old) (M.faults msg.new) Answer.Words result }
+{
+    ix_cli::refuse(alloc, &answer_for(error), msg)
 }

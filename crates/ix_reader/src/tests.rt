@@ -359,6 +359,15 @@ fn at_most_100_parentheses_are_open(rt: HostRuntime) -> Result<(), Fail> {
     Ok(())
 }
 
+/// A value of such a depth would take a call for each of its levels when it is dropped: none is built.
+#[test]
+fn many_parentheses_take_no_depth(rt: HostRuntime) -> Result<(), Fail> {
+    let alloc = rt.alloc();
+    let deep = nested(alloc, 60_000)?;
+    assert!(rt; matches!(read_text(alloc, deep.as_str()), Err(ReadFault::TooDeep)));
+    Ok(())
+}
+
 #[test]
 fn parentheses_that_are_no_grammar(rt: HostRuntime) -> Result<(), Fail> {
     let alloc = rt.alloc();

@@ -1,7 +1,7 @@
 use Rattle.std.proofs.Common.{◌≡◌, ◌-◌, ℕ, length, sym, ◌∙◌, subst, arith, IfSome}
 use Rattle.ix_model.specs.Matching.Terminals.{Matches}
 use Rattle.ix_model.specs.Derivations.Derives.{DerivesFirst}
-use Rattle.ix_cli.proofs.Lines.{comes_nowhere, comes_next, stops_here, plain_at, matches_within, get_some}
+use Rattle.ix_cli.proofs.PlainLines.{comes_nowhere, comes_next, stops_here, plain_at, matches_within, get_some}
 use Rattle.std.proofs.lemmas.Bool.Decides.{nat_tests}
 use Rattle.ix_cli.proofs.search.derives_text.Goals as goal
 

@@ -1,5 +1,5 @@
 use Rattle.std.proofs.Common.{refl, subst, sym}
-use Rattle.ix_cli.proofs.Lines.{get_some}
+use Rattle.ix_cli.proofs.PlainLines.{get_some}
 use Rattle.ix_cli.specs.Once.{DeriveText}
 use Rattle.ix_cli.proofs.Alternatives.{Found, found_first, found_same, found_twice, found_once, found_none, derives_at}
 use Rattle.ix_cli.proofs.search.is_derived_once.Goals as goal
