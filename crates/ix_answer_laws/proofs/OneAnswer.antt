@@ -20,7 +20,8 @@ use Rattle.ix_model.specs.Derivations.Offset.{Offset}
 use Rattle.ix_model.specs.Answers.Places.{line_of, column_of}
 use Rattle.ix_model.specs.Answers.CommandLine.{parse, check}
 use Rattle.ix_model.specs.Answers.Outcome.{Outcome, no_form, grammar_too_long, grammar_not_utf8, no_grammar, too_deep, not_conforming, conforms, text_too_long, text_not_utf8, failed, refused, document}
-use Rattle.ix_model.specs.Answers.Answer.{grammar_limit, text_limit, depth_limit, IsText, HoldsGrammar, HoldsConforming, GrammarRefused, Parsed, TextAnswered, Answered}
+use Rattle.ix_model.specs.Answers.Answer.{IsText, HoldsGrammar, HoldsConforming, GrammarRefused, Parsed, TextAnswered, Answered}
+use Rattle.ix_model.specs.Answers.Limits.{grammar_limit, text_limit, depth_limit}
 use Rattle.ix_answer_laws.proofs.Commands.{command_is_one}
 use Rattle.ix_spelling_laws.proofs.ReadingComplete.{spelled_once}
 use Rattle.ix_answer_laws.proofs.Firsts.{in_order}

@@ -1,4 +1,5 @@
 ghost use Rattle.std.specs.Prelude.{◌≤◌, IfOk, IfErr};
+ghost use Rattle.ix_model.specs.Answers.Limits.{grammar_limit};
 ghost use Rattle.ix_model.specs.Answers.Answer.{HoldsConforming};
 ghost use Rattle.ix_model.specs.Grammars.Breach.{Conforming};
 ghost use Rattle.ix_model.specs.Grammars.Size.{size};
@@ -22,7 +23,7 @@ const MOST: usize = 1_048_576;
 pub fn compile(alloc: Global, bytes: &[u8]) -> Result<Grammar, Refusal>
     ensures ok { IfOk result (HoldsConforming bytes.now) }
     ensures conforming { IfOk result (λ g. Conforming g) }
-    ensures small { IfOk result (λ g. size g ≤ 1048576) }
+    ensures small { IfOk result (λ g. size g ≤ grammar_limit) }
     ensures err { IfErr result (IsRefusalOf bytes.now) }
 {
     if bytes.len() > MOST {

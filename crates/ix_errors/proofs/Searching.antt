@@ -35,7 +35,7 @@ module _ {X : Type 0} (P : X → Type 0) where
     -- one more is as it should be
     pub searched_more : (ys : List Y) (i : ℕ) (y : Y) → i < length ys → y ≡ get_or ys i y → AllByRecursion P (flat_map f (take i ys)) → IsSearchFor P (f y) None → AllByRecursion P (flat_map f (take (i + 1) ys))
     searched_more ys i y l e h k =
-        subst (AllByRecursion P) (sym (more ys i y l)) (all_append (flat_map f (take i ys)) (f (get_or ys i y)) h (subst (λ (z : Y). AllByRecursion P (f z)) e k))
+        subst (AllByRecursion P) (sym (more ys i y l)) (all_append P (flat_map f (take i ys)) (f (get_or ys i y)) h (subst (λ (z : Y). AllByRecursion P (f z)) e k))
 
     behind : (ys : List Y) (i : ℕ) → (zs : List X) × (flat_map f ys ≡ flat_map f (take i ys) ++ zs)
     behind [] zero = ([], refl)

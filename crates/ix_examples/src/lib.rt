@@ -2,6 +2,5 @@
 #![tactic(auto)]
 
 pub mod plans;
-
 #[cfg(test)]
 mod tests;

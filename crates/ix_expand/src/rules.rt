@@ -2,6 +2,7 @@
 
 ghost use Rattle.std.specs.Prelude.{◌≡◌, ◌+◌, ◌*◌, ◌<◌, ◌≤◌, ◌^◌, map, sum, length, None, IfOk, OnOk};
 ghost use Rattle.std.specs.List.{AllByRecursion, flat_map};
+ghost use Rattle.ix_model.specs.Answers.Limits.{grammar_limit};
 ghost use Rattle.ix_model.specs.declared.grammar.Rule.{Rule};
 ghost use Rattle.ix_model.specs.Documents.Bare.{effective};
 ghost use Rattle.ix_model.specs.Grammars.Breach.{Conforming};
@@ -27,7 +28,7 @@ use std::alloc::{AllocError, Global};
 /// the same walk. Only memory can fail.
 pub fn expand(alloc: Global, grammar: &Grammar) -> Result<Rules, AllocError>
     requires conforming { Conforming grammar.now }
-    requires small { size grammar.now ≤ 1048576 }
+    requires small { size grammar.now ≤ grammar_limit }
     ensures expanded { IfOk result (Expanded grammar.now) }
     ensures slots { IfOk result (λ rules. length (numbering rules.flats) ≤ 9 * size grammar.now) }
 {

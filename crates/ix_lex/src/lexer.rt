@@ -1,6 +1,7 @@
 //! The tokens of characters, from the first to the last.
 
 ghost use Rattle.std.specs.Prelude.{◌≡◌, ◌≤◌, ℕ, List, length, drop, IfOk, Err};
+ghost use Rattle.ix_model.specs.Answers.Limits.{grammar_limit};
 ghost use Rattle.ix_spelling_laws.specs.Reading.Lexing as lexing;
 ghost use Rattle.ix_spelling_laws.specs.Reading.Lexing.{Lexes, after};
 ghost use Rattle.ix_lex.specs.Spans.{AreTokens};
@@ -15,7 +16,7 @@ use std::alloc::Global;
 
 /// Where the spacing ends that begins at a place.
 fn spacing_end(chars: &[char], at: usize) -> usize
-    requires few { length chars.now ≤ 1048576 }
+    requires few { length chars.now ≤ grammar_limit }
     requires within { at ≤ length chars.now }
     ensures after { drop result chars.now ≡ after (drop at chars.now) }
     ensures order { at ≤ result }
@@ -26,7 +27,7 @@ fn spacing_end(chars: &[char], at: usize) -> usize
 
 /// The token that begins at a place.
 fn token_at(chars: &[char], low: usize) -> Option<Token>
-    requires few { length chars.now ≤ 1048576 }
+    requires few { length chars.now ≤ grammar_limit }
     requires within { low ≤ length chars.now }
     ensures { IsTokenAt chars.now low result }
 {
@@ -44,10 +45,9 @@ fn token_at(chars: &[char], low: usize) -> Option<Token>
 /// Spacing alone stands before, between and behind them. Each token is as long as it can be, but a word gives back the
 /// last full stop of its run where no character that may follow a name comes next, so that `S: a.` ends with a full
 /// stop. `Bad` comes exactly where the characters are no list of tokens and spacing, and `Memory` where memory runs out.
-/// The time is linear in the number of characters.
 #[tactic(auto, using(crate::proofs::Turning::before_first, crate::proofs::Turning::before_next, crate::proofs::Turning::all_found, crate::proofs::Turning::none_at_all))]
 pub fn tokens(alloc: Global, chars: &[char]) -> Result<Vec<Token>, LexFault>
-    requires few { length chars.now ≤ 1048576 }
+    requires few { length chars.now ≤ grammar_limit }
     ensures ok { IfOk result (λ ts. AreTokens chars.now 0 ts.items) }
     ensures bad { result ≡ Err Bad → (ts : List lexing.Token) → Lexes ts chars.now → ⊥ }
 {

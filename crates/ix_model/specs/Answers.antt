@@ -2,5 +2,6 @@
 pub mod Answer
 pub mod CommandLine
 pub mod Decoding
+pub mod Limits
 pub mod Outcome
 pub mod Places

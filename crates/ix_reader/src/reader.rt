@@ -1,6 +1,7 @@
 //! Characters, read to the grammar that they spell.
 
 ghost use Rattle.std.specs.Prelude.{◌≡◌, ◌≤◌, ◌<◌, length, IfOk, Err, nat_lt};
+ghost use Rattle.ix_model.specs.Answers.Limits.{grammar_limit, depth_limit};
 ghost use Rattle.ix_model.specs.declared.grammar.Grammar.{Grammar};
 ghost use Rattle.ix_model.specs.Spelling.Spells.{Spells};
 ghost use Rattle.ix_model.specs.Spelling.Depth.{depth};
@@ -76,7 +77,7 @@ fn recognise(alloc: Global, chars: &[char], tokens: &[Token]) -> Result<(), Read
 /// The most parentheses that are open at once behind one of the tokens.
 fn deepest(chars: &[char], tokens: &[Token]) -> u32
     requires tokens { AreTokens chars.now 0 tokens.now }
-    requires few { length chars.now ≤ 1048576 }
+    requires few { length chars.now ≤ grammar_limit }
     ensures { result ≡ deepest 0 (lexed chars.now 0 tokens.now) }
 {
     let mut open = 0;
@@ -91,11 +92,11 @@ fn deepest(chars: &[char], tokens: &[Token]) -> u32
 /// The grammar of the tokens, where they do not nest too deeply.
 fn read_tokens(alloc: Global, chars: &[char], tokens: &[Token]) -> Result<Grammar, ReadFault>
     requires tokens { AreTokens chars.now 0 tokens.now }
-    requires few { length chars.now ≤ 1048576 }
-    ensures ok { IfOk result (λ g. Spells chars.now g × (depth g ≤ 100)) }
+    requires few { length chars.now ≤ grammar_limit }
+    ensures ok { IfOk result (λ g. Spells chars.now g × (depth g ≤ depth_limit)) }
     ensures size { IfOk result (λ g. size g ≤ length chars.now) }
     ensures not_ixml { result ≡ Err NotIxml → (g : Grammar) → Spells chars.now g → ⊥ }
-    ensures too_deep { result ≡ Err TooDeep → (g : Grammar) × Spells chars.now g × (100 < depth g) }
+    ensures too_deep { result ≡ Err TooDeep → (g : Grammar) × Spells chars.now g × (depth_limit < depth g) }
 {
     if deepest(chars, tokens) > MOST_OPEN {
         return match recognise(alloc, chars, tokens) {
@@ -109,14 +110,13 @@ fn read_tokens(alloc: Global, chars: &[char], tokens: &[Token]) -> Result<Gramma
 /// The grammar that the characters spell, by the rules of Invisible XML 1.0.
 ///
 /// `NotIxml` comes exactly where they spell none, and `TooDeep` exactly where they spell one in which more than 100
-/// parentheses are open at once; those in strings and comments do not count. `Memory` comes where memory runs out. The
-/// time is linear in the number of characters.
+/// parentheses are open at once; those in strings and comments do not count. `Memory` comes where memory runs out.
 pub fn read(alloc: Global, chars: &[char]) -> Result<Grammar, ReadFault>
-    requires few { length chars.now ≤ 1048576 }
-    ensures ok { IfOk result (λ g. Spells chars.now g × (depth g ≤ 100)) }
+    requires few { length chars.now ≤ grammar_limit }
+    ensures ok { IfOk result (λ g. Spells chars.now g × (depth g ≤ depth_limit)) }
     ensures size { IfOk result (λ g. size g ≤ length chars.now) }
     ensures not_ixml { result ≡ Err NotIxml → (g : Grammar) → Spells chars.now g → ⊥ }
-    ensures too_deep { result ≡ Err TooDeep → (g : Grammar) × Spells chars.now g × (100 < depth g) }
+    ensures too_deep { result ≡ Err TooDeep → (g : Grammar) × Spells chars.now g × (depth_limit < depth g) }
 {
     match tokens(alloc, chars) {
         Ok(found) => read_tokens(alloc, chars, &found),

@@ -14,7 +14,7 @@ use Rattle.ix_model.specs.Expansion.Numbering.{numbering}
 use Rattle.ix_model.specs.Expansion.Expanded.{Next, FactorBecomes, Expanded}
 use Rattle.ix_model.specs.Expansion.FlatDerives.{TerminalMatches}
 use Rattle.ix_model.specs.Grammars.Size.{size}
-use Rattle.ix_model.specs.Answers.Answer.{grammar_limit, text_limit}
+use Rattle.ix_model.specs.Answers.Limits.{grammar_limit, text_limit}
 use Rattle.ix_slots.specs.Plannable.{IsPlannable}
 
 -- the numbered rules of a grammar with a first rule can be planned for a text, where the grammar is no larger than a

@@ -79,16 +79,9 @@ fn no_derivation_uses_none(rt: HostRuntime) -> Result<(), Fail> {
 fn both_alternatives_are_listed(rt: HostRuntime) -> Result<(), Fail> {
     let alloc = rt.alloc();
     let plan = two_alternatives(alloc, &['a'])?;
-    let set = useful(
-        alloc,
-        &plan,
-        &[BY_SECOND, BY_FIRST],
-    )?;
+    let set = useful(alloc, &plan, &[BY_SECOND, BY_FIRST])?;
     assert_eq!(rt; set.count(), 2);
-    assert_eq!(rt;
-        (set.sub(0), set.sub(1)),
-        (BY_FIRST, BY_SECOND)
-    );
+    assert_eq!(rt; (set.sub(0), set.sub(1)), (BY_FIRST, BY_SECOND));
     assert_eq!(rt; set.alts(0, 0, 1), [0, 1].as_slice());
     Ok(())
 }
@@ -97,11 +90,7 @@ fn both_alternatives_are_listed(rt: HostRuntime) -> Result<(), Fail> {
 fn a_cycle_is_listed(rt: HostRuntime) -> Result<(), Fail> {
     let alloc = rt.alloc();
     let plan = cycle(alloc, &['a'])?;
-    let set = useful(
-        alloc,
-        &plan,
-        &[BY_SECOND, BY_FIRST],
-    )?;
+    let set = useful(alloc, &plan, &[BY_SECOND, BY_FIRST])?;
     assert_eq!(rt; set.count(), 2);
     assert_eq!(rt; set.alts(0, 0, 1), [0, 1].as_slice());
     Ok(())
@@ -111,11 +100,7 @@ fn a_cycle_is_listed(rt: HostRuntime) -> Result<(), Fail> {
 fn repetitions_of_nothing_are_listed(rt: HostRuntime) -> Result<(), Fail> {
     let alloc = rt.alloc();
     let plan = repeated_nothing(alloc)?;
-    let set = useful(
-        alloc,
-        &plan,
-        &REPEATED,
-    )?;
+    let set = useful(alloc, &plan, &REPEATED)?;
     assert_eq!(rt; set.count(), 5);
     assert_eq!(rt; set.alts(1, 0, 0), [0, 1].as_slice());
     assert_eq!(rt; set.alts(2, 0, 0), [0].as_slice());

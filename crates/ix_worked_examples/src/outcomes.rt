@@ -10,7 +10,8 @@ ghost use Rattle.ix_model.specs.Documents.FailedXml.{failed_xml};
 ghost use Rattle.ix_model.specs.Grammars.Breach.{Fault, version};
 ghost use Rattle.ix_model.specs.Answers.Decoding.{decoded};
 ghost use Rattle.ix_model.specs.Answers.Outcome.{Outcome, no_form, grammar_too_long, grammar_not_utf8, no_grammar, too_deep, not_conforming, conforms, text_too_long, text_not_utf8, failed, refused, document, status_of, output_of, message_of};
-ghost use Rattle.ix_model.specs.Answers.Answer.{grammar_limit, text_limit, depth_limit, HoldsGrammar, GrammarRefused, TextAnswered};
+ghost use Rattle.ix_model.specs.Answers.Answer.{HoldsGrammar, GrammarRefused, TextAnswered};
+ghost use Rattle.ix_model.specs.Answers.Limits.{grammar_limit, text_limit, depth_limit};
 ghost use Rattle.ix_examples.specs.SmallGivens.{document as one_element, text_of};
 
 /// The limits.

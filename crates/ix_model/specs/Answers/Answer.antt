@@ -9,6 +9,7 @@ use Rattle.ix_model.specs.Derivations.Trees.{Tree}
 use Rattle.ix_model.specs.Derivations.Derives.{IsDerivation, Ambiguous}
 use Rattle.ix_model.specs.Derivations.Order.{First}
 use Rattle.ix_model.specs.Documents.Gives.{gives_root}
+use Rattle.ix_model.specs.Answers.Limits.{grammar_limit, text_limit, depth_limit}
 use Rattle.ix_model.specs.Answers.Decoding.{decoded}
 use Rattle.ix_model.specs.Spelling.Spells.{Spells}
 use Rattle.ix_model.specs.Spelling.Depth.{depth}
@@ -18,18 +19,6 @@ use Rattle.ix_model.specs.Derivations.Offset.{Offset}
 use Rattle.ix_model.specs.Answers.Places.{line_of, column_of}
 use Rattle.ix_model.specs.Answers.CommandLine.{parse, check, IsCommand, HasNoForm}
 use Rattle.ix_model.specs.Answers.Outcome.{Outcome, no_form, grammar_too_long, grammar_not_utf8, no_grammar, too_deep, not_conforming, conforms, text_too_long, text_not_utf8, failed, refused, document, status_of, output_of, message_of}
-
--- the bytes of a grammar file, at most
-abbrev pub grammar_limit : ℕ
-grammar_limit = 1048576
-
--- the bytes of a text, at most
-abbrev pub text_limit : ℕ
-text_limit = 16777216
-
--- the parentheses that may stand open at once
-abbrev pub depth_limit : ℕ
-depth_limit = 100
 
 -- the bytes are UTF-8, and not more than the limit
 abbrev pub IsText : ℕ → List ℕ → Type 0
