@@ -1,6 +1,8 @@
 -- The numbered rules, their slots, and trees over them.
 pub mod Expanded
 pub mod FlatDerives
+pub mod FlatHeights
+pub mod FlatOrder
 pub mod FlatTrees
 pub mod Lift
 pub mod Lower
