@@ -7,7 +7,7 @@ use Rattle.ix_model.specs.declared.rules.Sym.{Sym}
 use Rattle.ix_model.specs.declared.rules.Sym.TheVariants as sym
 use Rattle.ix_model.specs.Expansion.Parts.{Parts}
 use Rattle.ix_model.specs.Expansion.FlatDerives.{IsTerminal}
-use Rattle.ix_model.specs.Expansion.SlotPlaces.{HasNext, IsLast}
+use Rattle.ix_model.specs.Expansion.SlotPlaces.{HasNext, IsLastSlot}
 use Rattle.ix_cluster.specs.declared.fact.Fact.{Fact}
 use Rattle.ix_cluster.specs.declared.fact.Fact.TheVariants as fact
 use Rattle.ix_cluster.specs.Banks.{facts_of}
@@ -32,7 +32,7 @@ module _ (plan : Parts) (Holds : Fact → Type 0) where
     -- or waits for a rule
     waits : (s l p after r : ℕ) (mark : Option Mark) → Holds (fact.Claim s l p) → HasNext plan s after (sym.Rule r mark) → IsDue (Edge r p s l)
     -- or ends its own
-    ends : (s l p r : ℕ) → Holds (fact.Claim s l p) → IsLast plan s r → IsDue (End r l p)
+    ends : (s l p r : ℕ) → Holds (fact.Claim s l p) → IsLastSlot plan s r → IsDue (End r l p)
     -- an edge and an end of one cluster meet
     meets : (r k s l e after : ℕ) (mark : Option Mark) → Holds (fact.Edge r k s l) → Holds (fact.End r k e) → HasNext plan s after (sym.Rule r mark) → IsDue (Arrive (sub_at after l k e))
 

@@ -8,7 +8,7 @@ use Rattle.ix_model.specs.declared.sub.Sub.{Sub}
 use Rattle.ix_model.specs.Closure.Useful.{sub_at}
 use Rattle.ix_model.specs.Expansion.Parts.{Parts}
 use Rattle.ix_model.specs.Expansion.FlatDerives.{IsTerminal}
-use Rattle.ix_model.specs.Expansion.SlotPlaces.{HasNext, IsLast}
+use Rattle.ix_model.specs.Expansion.SlotPlaces.{HasNext, IsLastSlot}
 use Rattle.ix_cluster.specs.declared.answers.Arrived.{Arrived}
 use Rattle.ix_cluster.specs.declared.answers.Arrived.TheVariants.{Fresh, Known}
 use Rattle.ix_cluster.specs.declared.answers.Claimed.{Claimed}
@@ -58,7 +58,7 @@ module _ (plan : Parts) (s l p : ℕ) where
     -- a rule is called at p
     calls : (r after : ℕ) (mark : Option Mark) → HasNext plan s after (sym.Rule r mark) → FollowsDesc (Edge r p s l ∷ [])
     -- the dot at the end ends the slot's rule
-    ends : (r : ℕ) → IsLast plan s r → FollowsDesc (End r l p ∷ [])
+    ends : (r : ℕ) → IsLastSlot plan s r → FollowsDesc (End r l p ∷ [])
 
 -- what a claim brings: nothing, where the descriptor was claimed before
 abbrev pub FollowsClaim : Parts → Claimed → ℕ → ℕ → ℕ → List Owed → Type 0

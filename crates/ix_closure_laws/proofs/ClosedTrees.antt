@@ -7,7 +7,7 @@ use Rattle.ix_model.specs.Expansion.Parts.{Parts}
 use Rattle.ix_model.specs.Expansion.Slots.{IsSlot}
 use Rattle.ix_model.specs.Expansion.FlatTrees.{FlatTree, flat_text, flat_insertion, flat_node, FlatTrees, no_flat, flats_and, flat_count}
 use Rattle.ix_model.specs.Expansion.FlatDerives.{FlatDerives, FlatDerivesFirst, IsLine}
-use Rattle.ix_model.specs.Expansion.SlotPlaces.{HasNext, IsLast}
+use Rattle.ix_model.specs.Expansion.SlotPlaces.{HasNext, IsLastSlot}
 use Rattle.ix_model.specs.Closure.Closed.{Called, Desc, begun, arrived, Edge, waiting, End, ended, Part, empty, scanned, inserted, joined}
 use Rattle.ix_closure_laws.specs.ClosedLaws.{IsCalledFor, Covers, IsLastFrom}
 use Rattle.ix_model.proofs.SlotPlaces.{same_slot, same_line, line_by, next_at}
@@ -24,7 +24,7 @@ module _ (plan : Parts) where
   covers_more s after l k r x d h t c = (flats_and c.0 d, covers_next s after l k r x c.0 d h t c.1, width_is plan d x k r t)
 
   -- the trees of a whole alternative are a tree of the rule
-  pub whole_tree : (s q l p : ℕ) (ds : FlatTrees) (m : Option Mark) (last : IsLast plan s q) → Covers plan s ds l p → FlatDerives plan (flat_node q last.0 ds) (sy.Rule q m) l p
+  pub whole_tree : (s q l p : ℕ) (ds : FlatTrees) (m : Option Mark) (last : IsLastSlot plan s q) → Covers plan s ds l p → FlatDerives plan (flat_node q last.0 ds) (sy.Rule q m) l p
   whole_tree s q l p ds m last c =
       let e = same_slot plan s c.0 c.1 (flat_count ds) q last.0 (length last.1) c.3 last.2 in
       let line = line_by plan c.0 q c.1 last.0 c.2 e.0 e.1 c.4 in

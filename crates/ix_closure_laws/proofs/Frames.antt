@@ -10,7 +10,7 @@ use Rattle.ix_model.specs.Expansion.Planned.{IsPlanned}
 use Rattle.ix_model.specs.Expansion.Slots.{IsSlot}
 use Rattle.ix_model.specs.Expansion.FlatTrees.{FlatTree, flat_text, flat_insertion, flat_node, FlatTrees, no_flat, flats_and, flat_count, flat_width}
 use Rattle.ix_model.specs.Expansion.FlatDerives.{FlatDerives, FlatDerivesFirst, IsLine, IsFlatDerivation}
-use Rattle.ix_model.specs.Expansion.SlotPlaces.{HasNext, IsLast}
+use Rattle.ix_model.specs.Expansion.SlotPlaces.{HasNext, IsLastSlot}
 use Rattle.ix_model.specs.Closure.Closed.{start, End, Part}
 use Rattle.ix_closure_laws.specs.ClosedLaws.{Covers, IsLastFrom}
 use Rattle.ix_closure_laws.specs.UsefulLaws.{HasFlatDerivation, HasRoot, HasUseful}
@@ -58,7 +58,7 @@ module _ (plan : Parts) (planned : IsPlanned plan) where
           let k_is : pivot ≡ right - flat_width d = omega (arith, width_is plan d (sy.Rule rule m) pivot right h) in
           f.stands (flats_and split.0 d) c.0 c.1 sub c.3 c (inr (inr (inl (subst (λ (z : ℕ). Stands plan d sub z right) k_is st))))
 
-  pub last_frame : (rule slot left right : ℕ) → TreeFrame rule left right → IsLast plan slot rule → TreesFrame slot left right
+  pub last_frame : (rule slot left right : ℕ) → TreeFrame rule left right → IsLastSlot plan slot rule → TreesFrame slot left right
   last_frame rule slot left right f last = record { fill = λ ds. f.fill (flat_node rule last.0 ds); derives = derives'; stands = stands'; one_way = λ ds es h. cc (f.one_way (flat_node rule last.0 ds) (flat_node rule last.0 es) h) }
     where
       derives' : (ds : FlatTrees) → Covers plan slot ds left right → IsFlatDerivation plan (f.fill (flat_node rule last.0 ds))

@@ -8,7 +8,7 @@ use Rattle.ix_model.specs.Expansion.Planned.{IsPlanned}
 use Rattle.ix_model.specs.Expansion.Slots.{IsSlot}
 use Rattle.ix_model.specs.Expansion.FlatTrees.{FlatTree, flat_text, flat_insertion, flat_node, FlatTrees, no_flat, flats_and, flat_count}
 use Rattle.ix_model.specs.Expansion.FlatDerives.{FlatDerives, FlatDerivesFirst, IsLine}
-use Rattle.ix_model.specs.Expansion.SlotPlaces.{HasNext, IsLast}
+use Rattle.ix_model.specs.Expansion.SlotPlaces.{HasNext, IsLastSlot}
 use Rattle.ix_model.specs.Closure.Closed.{Called, by_edge, Desc, begun, arrived, waiting, End, ended, Part, empty, scanned, inserted, joined}
 use Rattle.ix_closure_laws.specs.ClosedLaws.{IsCalledFor, Covers, IsLastFrom}
 use Rattle.ix_model.proofs.SlotPlaces.{same_slot, slot_for, before_of, same_before}
@@ -41,7 +41,7 @@ module _ (plan : Parts) (planned : IsPlanned plan) where
     pub syms : List Sym
     pub line : IsLine plan q a syms
     pub at : IsSlot plan last q a (flat_count ds)
-    pub is_last : IsLast plan last q
+    pub is_last : IsLastSlot plan last q
     pub part : Part plan last l pivot p
     pub trees : FlatDerivesFirst plan ds syms l p
 
@@ -85,7 +85,7 @@ module _ (plan : Parts) (planned : IsPlanned plan) where
   pub covered_part : (s l k p : ℕ) (ds : FlatTrees) → IsCalledFor plan s l → Covers plan s ds l p → IsLastFrom plan ds s l k p → Part plan s l k p
   covered_part s l k p no_flat c h t =
       let e = same_slot plan s h.0 h.1 0 t.1 t.2.0 (length t.2.1) h.3 t.2.2 in
-      let last : IsLast plan s h.0 = subst (λ (z : ℕ). IsLast plan s z) (sym e.0) t.2 in
+      let last : IsLastSlot plan s h.0 = subst (λ (z : ℕ). IsLastSlot plan s z) (sym e.0) t.2 in
       let part = empty h.0 l s (called_by s l p no_flat c h) (h.1, h.2, h.3, h.4) last in
       subst (λ (z : ℕ). Part plan s l k z) h.5 (subst (λ (z : ℕ). Part plan s l z l) (sym t.0) part)
   covered_part s l k p (flats_and ds d) c h t =

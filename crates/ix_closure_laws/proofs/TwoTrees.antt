@@ -9,7 +9,7 @@ use Rattle.ix_model.specs.Expansion.Planned.{IsPlanned}
 use Rattle.ix_model.specs.Expansion.Slots.{IsSlot}
 use Rattle.ix_model.specs.Expansion.FlatTrees.{FlatTree, flat_text, flat_insertion, flat_node, FlatTrees, no_flat, flats_and, flat_count}
 use Rattle.ix_model.specs.Expansion.FlatDerives.{FlatDerives, FlatDerivesFirst, IsLine}
-use Rattle.ix_model.specs.Expansion.SlotPlaces.{HasNext, IsLast}
+use Rattle.ix_model.specs.Expansion.SlotPlaces.{HasNext, IsLastSlot}
 use Rattle.ix_model.specs.Closure.Closed.{Called, Part}
 use Rattle.ix_closure_laws.specs.ClosedLaws.{IsLastFrom}
 use Rattle.ix_model.specs.Closure.Useful.{sub_at}
@@ -143,11 +143,11 @@ module _ (plan : Parts) (planned : IsPlanned plan) where
   -- ---- two ways: two different trees
 
   -- the last slot of a rule is reached through the rule
-  last_reached : (s l k p q : ℕ) → IsLast plan s q → SubReached plan s l k p → RuleReached plan q l p
+  last_reached : (s l k p q : ℕ) → IsLastSlot plan s q → SubReached plan s l k p → RuleReached plan q l p
   last_reached s l k p q n (as_last rule slot left pivot right w m part) = subst (λ (z : ℕ). RuleReached plan z l p) (same_slot plan s rule m.0 (length m.1) q n.0 (length n.1) m.2 n.2).0 w
   last_reached s l k p q n (as_prefix slot after left first pivot right x h m part) = absurd (next_not_last plan s after q x m n)
 
-  alternatives_differ : (q l p s t k m : ℕ) → s ≢ t → IsLast plan s q → IsLast plan t q → SubReached plan s l k p → SubReached plan t l m p → FlatAmbiguous plan
+  alternatives_differ : (q l p s t k m : ℕ) → s ≢ t → IsLastSlot plan s q → IsLastSlot plan t q → SubReached plan s l k p → SubReached plan t l m p → FlatAmbiguous plan
   alternatives_differ q l p s t k m n a b x y =
       let f = rule_frame plan planned q l p (last_reached s l k p q a x) in
       let ds = part_trees plan s l k p (reached_part plan planned s l k p x) in

@@ -9,7 +9,7 @@ use Rattle.ix_model.specs.Expansion.Planned.{IsPlanned}
 use Rattle.ix_model.specs.Expansion.Slots.{IsSlot}
 use Rattle.ix_model.specs.Expansion.FlatTrees.{FlatTree, FlatTrees, no_flat, flats_and, flat_count, flat_width}
 use Rattle.ix_model.specs.Expansion.FlatDerives.{FlatDerives, FlatDerivesFirst, IsLine}
-use Rattle.ix_model.specs.Expansion.SlotPlaces.{HasNext, IsLast}
+use Rattle.ix_model.specs.Expansion.SlotPlaces.{HasNext, IsLastSlot}
 use Rattle.ix_model.specs.Closure.Closed.{Called, Desc, Edge, End, Part}
 
 module _ (plan : Parts) where
@@ -23,7 +23,7 @@ module _ (plan : Parts) where
 
   -- the last of the trees is from k to r; or there is none, and the slot's alternative is empty
   abbrev pub IsLastFrom : FlatTrees → ℕ → ℕ → ℕ → ℕ → Type 0
-  IsLastFrom no_flat s l k r = (k ≡ l) × (rule : ℕ) × IsLast plan s rule
+  IsLastFrom no_flat s l k r = (k ≡ l) × (rule : ℕ) × IsLastSlot plan s rule
   IsLastFrom (flats_and ds d) s l k r = k + flat_width d ≡ r
 
 -- each fact is there exactly where what it says holds

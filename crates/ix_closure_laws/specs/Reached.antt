@@ -5,7 +5,7 @@ use Rattle.ix_model.specs.declared.grammar.Mark.{Mark}
 use Rattle.ix_model.specs.declared.rules.Sym.{Sym}
 use Rattle.ix_model.specs.declared.rules.Sym.TheVariants as sym
 use Rattle.ix_model.specs.Expansion.Parts.{Parts}
-use Rattle.ix_model.specs.Expansion.SlotPlaces.{HasNext, IsLast}
+use Rattle.ix_model.specs.Expansion.SlotPlaces.{HasNext, IsLastSlot}
 use Rattle.ix_model.specs.Closure.Closed.{Part}
 
 module _ (plan : Parts) where
@@ -20,6 +20,6 @@ module _ (plan : Parts) where
     -- the subtree is reached
     pub data SubReached : ℕ → ℕ → ℕ → ℕ → Type 0 where
       -- of the last slot of a rule that is reached over the span
-      as_last : (rule slot left pivot right : ℕ) → RuleReached rule left right → IsLast plan slot rule → Part plan slot left pivot right → SubReached slot left pivot right
+      as_last : (rule slot left pivot right : ℕ) → RuleReached rule left right → IsLastSlot plan slot rule → Part plan slot left pivot right → SubReached slot left pivot right
       -- of the slot before a subtree that is reached, up to its pivot
       as_prefix : (slot after left first pivot right : ℕ) (x : Sym) → SubReached after left pivot right → HasNext plan slot after x → Part plan slot left first pivot → SubReached slot left first pivot

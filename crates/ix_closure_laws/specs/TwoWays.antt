@@ -3,14 +3,14 @@ use Rattle.std.specs.Prelude.{◌≢◌, ◌⊎◌, ℕ}
 use Rattle.ix_model.specs.Expansion.Parts.{Parts}
 use Rattle.ix_model.specs.Expansion.FlatTrees.{FlatTree}
 use Rattle.ix_model.specs.Expansion.FlatDerives.{IsFlatDerivation}
-use Rattle.ix_model.specs.Expansion.SlotPlaces.{IsLast}
+use Rattle.ix_model.specs.Expansion.SlotPlaces.{IsLastSlot}
 use Rattle.ix_model.specs.Closure.Useful.{sub_at, Useful}
 
 module _ (plan : Parts) where
   -- of one rule and span, useful subtrees end two alternatives
   abbrev pub HasTwoAlternatives : Type 0
   HasTwoAlternatives =
-      (q : ℕ) × (l : ℕ) × (r : ℕ) × (s : ℕ) × (t : ℕ) × (k : ℕ) × (m : ℕ) × (s ≢ t) × IsLast plan s q × IsLast plan t q × Useful plan (sub_at s l k r) × Useful plan (sub_at t l m r)
+      (q : ℕ) × (l : ℕ) × (r : ℕ) × (s : ℕ) × (t : ℕ) × (k : ℕ) × (m : ℕ) × (s ≢ t) × IsLastSlot plan s q × IsLastSlot plan t q × Useful plan (sub_at s l k r) × Useful plan (sub_at t l m r)
 
   -- of one slot and span, useful subtrees have two pivots
   abbrev pub HasTwoPivots : Type 0

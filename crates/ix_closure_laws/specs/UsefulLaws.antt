@@ -6,7 +6,7 @@ use Rattle.ix_model.specs.Expansion.Parts.{Parts}
 use Rattle.ix_model.specs.Expansion.Planned.{IsPlanned}
 use Rattle.ix_model.specs.Expansion.FlatTrees.{FlatTree, flat_width}
 use Rattle.ix_model.specs.Expansion.FlatDerives.{FlatDerives, IsFlatDerivation}
-use Rattle.ix_model.specs.Expansion.SlotPlaces.{IsLast}
+use Rattle.ix_model.specs.Expansion.SlotPlaces.{IsLastSlot}
 use Rattle.ix_model.specs.Closure.Closed.{End, Part}
 use Rattle.ix_model.specs.Closure.Useful.{Useful}
 use Rattle.ix_closure_laws.specs.Reached.{SubReached}
@@ -30,7 +30,7 @@ HasFlatDerivation plan = (d : FlatTree) × IsFlatDerivation plan d
 
 -- the closure has a subtree of the whole first rule over the whole text
 abbrev pub HasRoot : Parts → Type 0
-HasRoot plan = (s : ℕ) × (pivot : ℕ) × IsLast plan s 0 × Part plan s 0 pivot (length plan.text)
+HasRoot plan = (s : ℕ) × (pivot : ℕ) × IsLastSlot plan s 0 × Part plan s 0 pivot (length plan.text)
 
 -- some subtree is useful
 abbrev pub HasUseful : Parts → Type 0

@@ -12,7 +12,7 @@ use Rattle.ix_model.specs.declared.rules.Sym.{Sym}
 use Rattle.ix_model.specs.Expansion.Parts.{Parts}
 use Rattle.ix_model.specs.Expansion.Numbered.{lines_at}
 use Rattle.ix_model.specs.Expansion.FlatDerives.{IsLine}
-use Rattle.ix_model.specs.Expansion.SlotPlaces.{IsFirst, IsLast}
+use Rattle.ix_model.specs.Expansion.SlotPlaces.{IsFirstSlot, IsLastSlot}
 use Rattle.ix_model.proofs.Readers.{has_line, lines_is}
 use Rattle.ix_model.proofs.SlotPlaces.{slot_for}
 use Rattle.ix_model.proofs.SlotReaders.{first_reads, last_reads, reads_last}
@@ -51,7 +51,7 @@ module _ (plan : Parts) (planned : IsPlanned plan) where
   rule_there s r mark e = planned.symbols (info_at plan s).head (info_at plan s).alt (info_at plan s).dot (Rule r mark) e
 
   -- the first slots of a rule are those with the dot at the beginning of one of its alternatives
-  pub firsts_have : (r s : ℕ) → IsFirst plan s r → Contains (firsts_of plan r) s
+  pub firsts_have : (r s : ℕ) → IsFirstSlot plan s r → Contains (firsts_of plan r) s
   firsts_have r s h =
       let count = length (lines_at plan.rules r) in
       let within : h.0 < count = slice_get_within (lines_at plan.rules r) h.0 h.3.1 (ap (λ (ls : List Line). slice_get ls h.0) (lines_is plan.rules r h.3.0 h.3.2) ∙ h.3.3) in
@@ -59,7 +59,7 @@ module _ (plan : Parts) (planned : IsPlanned plan) where
       (get_or-map-range_with_len (first_slot plan r) 0 count h.0 h.0 0 within (omega arith) ∙ first_is_slot r h.0 s h.2)
       (Contains-get_or (firsts_of plan r) h.0 0 (omega (arith, within, length-map-range_with_len (first_slot plan r) 0 count)))
 
-  pub firsts_are : (r s : ℕ) → r < length plan.rules.flats → Contains (firsts_of plan r) s → IsFirst plan s r
+  pub firsts_are : (r s : ℕ) → r < length plan.rules.flats → Contains (firsts_of plan r) s → IsFirstSlot plan s r
   firsts_are r s there h =
       let count = length (lines_at plan.rules r) in
       let within : h.0 < count = omega (arith, h.1, length-map-range_with_len (first_slot plan r) 0 count) in
@@ -67,13 +67,13 @@ module _ (plan : Parts) (planned : IsPlanned plan) where
       let line : IsLine plan r h.0 found.line.syms = (found.flat, found.line, found.flat_at, found.line_at, refl) in
       let at = slot_for plan planned r h.0 0 found.line.syms line (omega arith) in
       let same : at.0 ≡ s = sym (first_is_slot r h.0 at.0 at.1) ∙ sym (get_or-map-range_with_len (first_slot plan r) 0 count h.0 h.0 s within (omega arith)) ∙ h.2 in
-      subst (λ (n : ℕ). IsFirst plan n r) same (h.0, found.line.syms, at.1, line)
+      subst (λ (n : ℕ). IsFirstSlot plan n r) same (h.0, found.line.syms, at.1, line)
 
   -- an alternative whose first slot has its dot at the end is empty
-  pub ends_at_once : (r s : ℕ) → IsFirst plan s r → is_at_end plan s ≡ true → IsLast plan s r
+  pub ends_at_once : (r s : ℕ) → IsFirstSlot plan s r → is_at_end plan s ≡ true → IsLastSlot plan s r
   ends_at_once r s h e =
       let f = first_reads plan s r h in
       reads_last plan planned s r (f.0, f.1, none_is (sym_after plan s) e)
 
-  pub at_end_of : (r s : ℕ) → IsLast plan s r → is_at_end plan s ≡ true
+  pub at_end_of : (r s : ℕ) → IsLastSlot plan s r → is_at_end plan s ≡ true
   at_end_of r s h = ap is_none (last_reads plan s r h).2

@@ -9,7 +9,7 @@ use Rattle.ix_model.specs.declared.sub.Sub.{Sub}
 use Rattle.ix_model.specs.Expansion.Parts.{Parts}
 use Rattle.ix_model.specs.Expansion.Planned.{IsPlanned}
 use Rattle.ix_model.specs.Expansion.Slots.{info_at}
-use Rattle.ix_model.specs.Expansion.SlotPlaces.{IsFirst, IsLast}
+use Rattle.ix_model.specs.Expansion.SlotPlaces.{IsFirstSlot, IsLastSlot}
 use Rattle.ix_model.specs.Closure.Closed as closed
 use Rattle.ix_model.proofs.Numbers.{get_split}
 use Rattle.ix_model.proofs.SlotReaders.{first_reads}
@@ -77,21 +77,21 @@ module _ (plan : Parts) (count m : ℕ) where
   -- ---- a call
 
   module _ (planned : IsPlanned plan) (r k : ℕ) (here : home r k count ≡ m) (called : closed.Called plan r k) where
-    desc-may : (log : List Fact) (s : ℕ) → IsFirst plan s r → MayCome log (Desc s k k)
+    desc-may : (log : List Fact) (s : ℕ) → IsFirstSlot plan s r → MayCome log (Desc s k k)
     desc-may log s first = record {
       at_home = ap (λ (n : ℕ). home n k count) (first_reads plan s r first).1 ∙ here;
       closed = closed.begun r k s called first;
       later = λ s' l p e. absurd (cc e);
     }
 
-    part-may : (log : List Fact) (s : ℕ) → IsFirst plan s r → is_at_end plan s ≡ true → MayCome log (Part (empty_sub s k))
+    part-may : (log : List Fact) (s : ℕ) → IsFirstSlot plan s r → is_at_end plan s ≡ true → MayCome log (Part (empty_sub s k))
     part-may log s first e = record {
       at_home = ap (λ (n : ℕ). home n k count) (first_reads plan s r first).1 ∙ here;
       closed = closed.empty r k s called first (ends_at_once plan planned r s first e);
       later = λ s' l p w. absurd (cc w);
     }
 
-    good-first : (log : List Fact) (s : ℕ) → IsFirst plan s r → IsGood log → IsGood (after_first plan k log s)
+    good-first : (log : List Fact) (s : ℕ) → IsFirstSlot plan s r → IsGood log → IsGood (after_first plan k log s)
     good-first log s first good = by (is_at_end plan s) refl
       where
         begun : IsGood (put log (Desc s k k))
@@ -101,7 +101,7 @@ module _ (plan : Parts) (count m : ℕ) where
         by true e = good-put (put log (Desc s k k)) (Part (empty_sub s k)) (part-may (put log (Desc s k k)) s first e) begun
         by false e = begun
 
-    good-firsts : (ss : List ℕ) (log : List Fact) → ((s : ℕ) → Contains ss s → IsFirst plan s r) → IsGood log → IsGood (after_firsts plan k ss log)
+    good-firsts : (ss : List ℕ) (log : List Fact) → ((s : ℕ) → Contains ss s → IsFirstSlot plan s r) → IsGood log → IsGood (after_firsts plan k ss log)
     good-firsts [] log firsts good = good
     good-firsts (s ∷ ss) log firsts good = good-firsts ss (after_first plan k log s) (λ t h. firsts t (rest_has s ss t h)) (good-first log s (firsts s (first_has s ss)) good)
 
@@ -120,7 +120,7 @@ module _ (plan : Parts) (count m : ℕ) where
 -- what the log has to have with the fact
 abbrev pub Wanted : Parts → List Fact → Fact → Type 0
 Wanted plan log (Part sub) = Contains log (Desc sub.slot sub.left sub.right)
-Wanted plan log (Called r k) = ((s : ℕ) → IsFirst plan s r → Contains log (Desc s k k)) × ((s : ℕ) → IsFirst plan s r → IsLast plan s r → Contains log (Part (empty_sub s k)))
+Wanted plan log (Called r k) = ((s : ℕ) → IsFirstSlot plan s r → Contains log (Desc s k k)) × ((s : ℕ) → IsFirstSlot plan s r → IsLastSlot plan s r → Contains log (Part (empty_sub s k)))
 Wanted plan log (Edge r k s l) = Contains log (Called r k)
 Wanted plan log _ = Unit {0}
 

@@ -3,7 +3,7 @@ use Rattle.std.specs.Prelude.{◌≡◌, ℕ, ◌+◌, ◌<◌, ◌≤◌, ◌^�
 use Rattle.std.specs.List.{IsDistinct}
 use Rattle.ix_model.specs.declared.sub.Sub.{Sub}
 use Rattle.ix_model.specs.Expansion.Parts.{Parts}
-use Rattle.ix_model.specs.Expansion.SlotPlaces.{IsFirst, IsLast}
+use Rattle.ix_model.specs.Expansion.SlotPlaces.{IsFirstSlot, IsLastSlot}
 use Rattle.ix_cluster.specs.declared.fact.Fact.{Fact}
 use Rattle.ix_cluster.specs.declared.fact.Fact.TheVariants.{Called, Edge, Desc, Part, Claim}
 use Rattle.ix_cluster.specs.ClosedFacts.{IsInClosed}
@@ -24,8 +24,8 @@ pub record HasCompanions (plan : Parts) (log : List Fact) : Type 0 where
   -- with a subtree its descriptor
   pub parts : (sub : Sub) → Contains log (Part sub) → Contains log (Desc sub.slot sub.left sub.right)
   -- with a call the descriptor of each alternative's first slot, and the subtree of each empty alternative
-  pub alternatives : (r k s : ℕ) → Contains log (Called r k) → IsFirst plan s r → Contains log (Desc s k k)
-  pub empties : (r k s : ℕ) → Contains log (Called r k) → IsFirst plan s r → IsLast plan s r → Contains log (Part (empty_sub s k))
+  pub alternatives : (r k s : ℕ) → Contains log (Called r k) → IsFirstSlot plan s r → Contains log (Desc s k k)
+  pub empties : (r k s : ℕ) → Contains log (Called r k) → IsFirstSlot plan s r → IsLastSlot plan s r → Contains log (Part (empty_sub s k))
   -- with an edge the call of its cluster
   pub edges : (r k s l : ℕ) → Contains log (Edge r k s l) → Contains log (Called r k)
 

@@ -7,7 +7,7 @@ use Rattle.ix_model.specs.declared.rules.Sym.TheVariants as sy
 use Rattle.ix_model.specs.Expansion.Parts.{Parts}
 use Rattle.ix_model.specs.Expansion.Slots.{IsSlot}
 use Rattle.ix_model.specs.Expansion.FlatDerives.{IsLine, IsTerminal}
-use Rattle.ix_model.specs.Expansion.SlotPlaces.{HasNext, IsFirst, IsLast}
+use Rattle.ix_model.specs.Expansion.SlotPlaces.{HasNext, IsFirstSlot, IsLastSlot}
 use Rattle.ix_model.specs.Closure.Closed.{Called, start, by_edge, Desc, begun, arrived, Edge, waiting, End, ended, Part, empty, scanned, inserted, joined}
 use Rattle.ix_examples.specs.SmallPlans.{call, literal, only_a, cycle, nothing}
 use Rattle.ix_model.proofs.SlotPlaces.{same_slot}
@@ -32,10 +32,10 @@ module _ (text : List ℕ) where
       x_is : (r a dot : ℕ) → r ≡ 0 → a ≡ 0 → dot ≡ 0 → (syms : List Sym) → IsLine (only_a text) r a syms → slice_get syms dot ≡ Some x → x ≡ literal 0
       x_is r a dot e f g syms line at = cc (e, f, g, line.2, line.3, line.4, at)
 
-  first_a : (s r : ℕ) → IsFirst (only_a text) s r → (s ≡ 0) × (r ≡ 0)
+  first_a : (s r : ℕ) → IsFirstSlot (only_a text) s r → (s ≡ 0) × (r ≡ 0)
   first_a s r h = let p = place_a s r h.0 0 h.2 in (p.2, p.0)
 
-  pub last_a : (s r : ℕ) → IsLast (only_a text) s r → (s ≡ 1) × (r ≡ 0)
+  pub last_a : (s r : ℕ) → IsLastSlot (only_a text) s r → (s ≡ 1) × (r ≡ 0)
   last_a s r h =
       let p = place_a s r h.0 (length h.1) h.2 in
       let e : h.1 ≡ literal 0 ∷ [] = cc (p.0, p.1, h.3.2, h.3.3, h.3.4) in
@@ -91,7 +91,7 @@ part_1 = scanned 0 0 0 1 1 (literal 0) (desc_0 (codes "a")) (0, 0, 0, _, refl, r
 pub desc_1 : Desc on_a 1 0 1
 desc_1 = arrived 1 0 0 1 part_1
 
-pub last_1 : IsLast on_a 1 0
+pub last_1 : IsLastSlot on_a 1 0
 last_1 = (0, _, refl, (_, _, refl, refl, refl))
 
 pub end_1 : End on_a 0 0 1
@@ -146,7 +146,7 @@ next_c s after x h = go p.1
     go (inl a) = inl (omega (arith, p.2, a, d), omega (arith, q.2, a, d), by_first h.0 h.1 h.2 p.0 a d h.3 h.6 h.7)
     go (inr a) = inr (omega (arith, p.2, a, d), omega (arith, q.2, a, d), by_second h.0 h.1 h.2 p.0 a d h.3 h.6 h.7)
 
-first_c : (s r : ℕ) → IsFirst (cycle (codes "a")) s r → ((s ≡ 0) ⊎ (s ≡ 2)) × (r ≡ 0)
+first_c : (s r : ℕ) → IsFirstSlot (cycle (codes "a")) s r → ((s ≡ 0) ⊎ (s ≡ 2)) × (r ≡ 0)
 first_c s r h = (go p.1, p.0)
   where
     p : (r ≡ 0) × ((h.0 ≡ 0) ⊎ (h.0 ≡ 1)) × (s ≡ 2 * h.0 + 0) × (0 ≤ 1)
@@ -156,7 +156,7 @@ first_c s r h = (go p.1, p.0)
     go (inl a) = inl (omega (arith, p.2, a))
     go (inr a) = inr (omega (arith, p.2, a))
 
-last_c : (s r : ℕ) → IsLast (cycle (codes "a")) s r → ((s ≡ 1) ⊎ (s ≡ 3)) × (r ≡ 0)
+last_c : (s r : ℕ) → IsLastSlot (cycle (codes "a")) s r → ((s ≡ 1) ⊎ (s ≡ 3)) × (r ≡ 0)
 last_c s r h = (go p.1, p.0)
   where
     p : (r ≡ 0) × ((h.0 ≡ 0) ⊎ (h.0 ≡ 1)) × (s ≡ 2 * h.0 + length h.1) × (length h.1 ≤ 1)

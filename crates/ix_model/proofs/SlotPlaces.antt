@@ -9,7 +9,7 @@ use Rattle.ix_model.specs.Expansion.Planned.{IsPlanned}
 use Rattle.ix_model.specs.Expansion.Numbering.{slot}
 use Rattle.ix_model.specs.Expansion.Slots.{IsSlot}
 use Rattle.ix_model.specs.Expansion.FlatDerives.{IsLine}
-use Rattle.ix_model.specs.Expansion.SlotPlaces.{HasNext, IsLast}
+use Rattle.ix_model.specs.Expansion.SlotPlaces.{HasNext, IsLastSlot}
 use Rattle.ix_model.proofs.Numbers.{same_info}
 use Rattle.ix_model.proofs.Slots.{slot_of, one_slot}
 
@@ -30,7 +30,7 @@ module _ (plan : Parts) where
   line_by r q a b syms e f h = subst (λ (z : ℕ). IsLine plan q z syms) f (subst (λ (z : ℕ). IsLine plan z a syms) e h)
 
   -- no symbol follows the end of an alternative
-  pub next_not_last : (s after q : ℕ) (x : Sym) → HasNext plan s after x → IsLast plan s q → ⊥
+  pub next_not_last : (s after q : ℕ) (x : Sym) → HasNext plan s after x → IsLastSlot plan s q → ⊥
   next_not_last s after q x h l =
       let e = same_slot s h.0 h.1 h.2 q l.0 (length l.1) h.4 l.2 in
       omega (arith, e.2, slice_get_within h.3 h.2 x h.7, ap length (same_line q l.0 h.3 l.1 (line_by h.0 q h.1 l.0 h.3 e.0 e.1 h.6) l.3))

@@ -9,7 +9,7 @@ use Rattle.ix_model.specs.Expansion.Numbered.{syms_at}
 use Rattle.ix_model.specs.Expansion.Numbering.{slot}
 use Rattle.ix_model.specs.Expansion.Slots.{IsSlot, info_at, sym_after}
 use Rattle.ix_model.specs.Expansion.FlatDerives.{IsLine}
-use Rattle.ix_model.specs.Expansion.SlotPlaces.{IsFirst, IsLast, HasNext}
+use Rattle.ix_model.specs.Expansion.SlotPlaces.{IsFirstSlot, IsLastSlot, HasNext}
 use Rattle.ix_model.proofs.Readers.{syms_is, slot_at}
 use Rattle.ix_model.proofs.Slots.{HasPlace, place_of, one_slot, next_number}
 
@@ -38,12 +38,12 @@ module _ (plan : Parts) where
   after_is s r a d syms h line =
       ap (λ (i : SlotInfo). slice_get (syms_at plan.rules i.head i.alt) i.dot) (info_is s r a d h) ∙ ap (λ (z : List Sym). slice_get z d) (line_syms r a syms line)
 
-  pub first_reads : (s r : ℕ) → IsFirst plan s r → (s < length plan.slots) × ((info_at plan s).head ≡ r) × ((info_at plan s).dot ≡ 0)
+  pub first_reads : (s r : ℕ) → IsFirstSlot plan s r → (s < length plan.slots) × ((info_at plan s).head ≡ r) × ((info_at plan s).dot ≡ 0)
   first_reads s r h =
       let i = info_is s r h.0 0 h.2 in
       (there s r h.0 0 h.2, ap (λ (z : SlotInfo). z.head) i, ap (λ (z : SlotInfo). z.dot) i)
 
-  pub last_reads : (s r : ℕ) → IsLast plan s r → (s < length plan.slots) × ((info_at plan s).head ≡ r) × (sym_after plan s ≡ None)
+  pub last_reads : (s r : ℕ) → IsLastSlot plan s r → (s < length plan.slots) × ((info_at plan s).head ≡ r) × (sym_after plan s ≡ None)
   last_reads s r h =
       let i = info_is s r h.0 (length h.1) h.2 in
       (there s r h.0 (length h.1) h.2, ap (λ (z : SlotInfo). z.head) i, after_is s r h.0 (length h.1) h.1 h.2 h.3 ∙ slice_get_past h.1 (length h.1) (omega arith))
@@ -69,10 +69,10 @@ module _ (plan : Parts) (planned : IsPlanned plan) where
   line_by : (s r : ℕ) (h : s < length plan.slots) → (info_at plan s).head ≡ r → IsLine plan r (info_at plan s).alt (place s h).line.syms
   line_by s r h e = subst (λ (z : ℕ). IsLine plan z (info_at plan s).alt (place s h).line.syms) e (line_of s h)
 
-  pub reads_first : (s r : ℕ) → (s < length plan.slots) × ((info_at plan s).head ≡ r) × ((info_at plan s).dot ≡ 0) → IsFirst plan s r
+  pub reads_first : (s r : ℕ) → (s < length plan.slots) × ((info_at plan s).head ≡ r) × ((info_at plan s).dot ≡ 0) → IsFirstSlot plan s r
   reads_first s r h = ((info_at plan s).alt, (place s h.0).line.syms, slot_by s r 0 h.0 h.1 h.2, line_by s r h.0 h.1)
 
-  pub reads_last : (s r : ℕ) → (s < length plan.slots) × ((info_at plan s).head ≡ r) × (sym_after plan s ≡ None) → IsLast plan s r
+  pub reads_last : (s r : ℕ) → (s < length plan.slots) × ((info_at plan s).head ≡ r) × (sym_after plan s ≡ None) → IsLastSlot plan s r
   reads_last s r h =
       let p = place s h.0 in
       let none : slice_get p.line.syms (info_at plan s).dot ≡ None = ap (λ (z : List Sym). slice_get z (info_at plan s).dot) (sym (line_syms plan (info_at plan s).head (info_at plan s).alt p.line.syms (line_of s h.0))) ∙ h.2 in

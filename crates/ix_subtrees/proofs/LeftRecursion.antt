@@ -14,7 +14,7 @@ use Rattle.ix_model.specs.Expansion.Planned.{IsPlanned}
 use Rattle.ix_model.specs.Expansion.Slots.{info_at, sym_after}
 use Rattle.ix_model.specs.Matching.Terminals.{StandsAt}
 use Rattle.ix_model.specs.Expansion.FlatDerives.{IsTerminal}
-use Rattle.ix_model.specs.Expansion.SlotPlaces.{HasNext, IsFirst, IsLast}
+use Rattle.ix_model.specs.Expansion.SlotPlaces.{HasNext, IsFirstSlot, IsLastSlot}
 use Rattle.ix_model.specs.Closure.Closed.{Called, start, by_edge, Desc, begun, arrived, Edge, waiting, End, ended, Part, empty, scanned, inserted, joined}
 use Rattle.ix_model.specs.Closure.Useful.{sub_at}
 use Rattle.ix_examples.specs.SmallPlans.{call, literal}
@@ -67,7 +67,7 @@ module _ (n : ℕ) (small : n < 2 ^ 32) where
       go (suc (suc (suc zero))) h e f = absurd (cc e)
       go (suc (suc (suc (suc s)))) h e f = absurd (omega (arith, h))
 
-  first_left : (s r : ℕ) → IsFirst (left_recursive n) s r → (s ≡ 0) ⊎ (s ≡ 3)
+  first_left : (s r : ℕ) → IsFirstSlot (left_recursive n) s r → (s ≡ 0) ⊎ (s ≡ 3)
   first_left s r h = let i = first_reads (left_recursive n) s r h in go s i.0 i.2
     where
       go : (s : ℕ) → s < 4 → (info_at (left_recursive n) s).dot ≡ 0 → (s ≡ 0) ⊎ (s ≡ 3)
@@ -77,7 +77,7 @@ module _ (n : ℕ) (small : n < 2 ^ 32) where
       go (suc (suc (suc zero))) h e = inr refl
       go (suc (suc (suc (suc s)))) h e = absurd (omega (arith, h))
 
-  pub last_left : (s r : ℕ) → IsLast (left_recursive n) s r → (s ≡ 2) ⊎ (s ≡ 3)
+  pub last_left : (s r : ℕ) → IsLastSlot (left_recursive n) s r → (s ≡ 2) ⊎ (s ≡ 3)
   last_left s r h = let i = last_reads (left_recursive n) s r h in go s i.0 i.2
     where
       go : (s : ℕ) → s < 4 → sym_after (left_recursive n) s ≡ None → (s ≡ 2) ⊎ (s ≡ 3)
@@ -149,13 +149,13 @@ module _ (n : ℕ) (small : n < 2 ^ 32) where
   pub next_1 : HasNext (left_recursive n) 1 2 (literal 0)
   next_1 = (0, 0, 1, _, refl, refl, (_, _, refl, refl, refl), refl)
 
-  first_3 : IsFirst (left_recursive n) 3 0
+  first_3 : IsFirstSlot (left_recursive n) 3 0
   first_3 = (1, _, refl, (_, _, refl, refl, refl))
 
-  pub last_2 : IsLast (left_recursive n) 2 0
+  pub last_2 : IsLastSlot (left_recursive n) 2 0
   last_2 = (0, _, refl, (_, _, refl, refl, refl))
 
-  pub last_3 : IsLast (left_recursive n) 3 0
+  pub last_3 : IsLastSlot (left_recursive n) 3 0
   last_3 = (1, _, refl, (_, _, refl, refl, refl))
 
   edge : Edge (left_recursive n) 0 0 0 0

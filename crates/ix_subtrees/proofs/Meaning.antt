@@ -14,7 +14,7 @@ use Rattle.ix_model.specs.declared.sub.Sub.{Sub}
 use Rattle.ix_model.specs.Expansion.Parts.{Parts}
 use Rattle.ix_model.specs.Expansion.Planned.{IsPlanned}
 use Rattle.ix_model.specs.Expansion.Slots.{info_at, sym_after}
-use Rattle.ix_model.specs.Expansion.SlotPlaces.{HasNext, IsLast}
+use Rattle.ix_model.specs.Expansion.SlotPlaces.{HasNext, IsLastSlot}
 use Rattle.ix_model.specs.Closure.Closed.{Part}
 use Rattle.ix_model.specs.Closure.Useful.{Useful}
 use Rattle.ix_closure_laws.specs.Reached.{RuleReached, root, as_child, SubReached, as_last, as_prefix}
@@ -58,13 +58,13 @@ module _ (plan : Parts) (p : IsPlanned plan) (places : List Place) (subs : List 
   next_below s v x h = (next_reads plan p s v x h).0
 
   Kind : ℕ → Type 0
-  Kind s = (s < length plan.slots) × (((q : ℕ) × IsLast plan s q) ⊎ ((v : ℕ) × (x : Sym) × HasNext plan s v x))
+  Kind s = (s < length plan.slots) × (((q : ℕ) × IsLastSlot plan s q) ⊎ ((v : ℕ) × (x : Sym) × HasNext plan s v x))
 
   unfoldable slot_kind : (s : ℕ) → s < length plan.slots → Kind s
   unfolding Kind
   slot_kind s h = (h, go (sym_after plan s) refl)
     where
-      go : (x : Option Sym) → sym_after plan s ≡ x → ((q : ℕ) × IsLast plan s q) ⊎ ((v : ℕ) × (x : Sym) × HasNext plan s v x)
+      go : (x : Option Sym) → sym_after plan s ≡ x → ((q : ℕ) × IsLastSlot plan s q) ⊎ ((v : ℕ) × (x : Sym) × HasNext plan s v x)
       go None e = inl ((info_at plan s).head, reads_last plan p s (info_at plan s).head (h, refl, e))
       go (Some x) e = inr (s + 1, x, reads_next plan p s (s + 1) x (h, e, refl))
 
@@ -109,7 +109,7 @@ module _ (plan : Parts) (p : IsPlanned plan) (places : List Place) (subs : List 
       elim k.1 [
         | inl x ↦
             let s : x.0 ≡ q = omega (arith, e, o.group, h.last x.0 x.1) in
-            as_last q n.slot n.left n.pivot n.right (subst (λ (z : ℕ). RuleReached plan q n.left z) (sym g) (subst (λ (z : ℕ). RuleReached plan q z r) (sym f) w)) (subst (λ (z : ℕ). IsLast plan n.slot z) s x.1) o.part
+            as_last q n.slot n.left n.pivot n.right (subst (λ (z : ℕ). RuleReached plan q n.left z) (sym g) (subst (λ (z : ℕ). RuleReached plan q z r) (sym f) w)) (subst (λ (z : ℕ). IsLastSlot plan n.slot z) s x.1) o.part
         | inr x ↦ absurd (omega (arith, e, o.group, h.inner x.0 x.1 x.2, k.0))
       ]
 

@@ -8,7 +8,7 @@ use Rattle.ix_model.specs.Expansion.Parts.{Parts}
 use Rattle.ix_model.specs.Expansion.Planned.{IsPlanned}
 use Rattle.ix_model.specs.Expansion.Slots.{info_at, sym_after}
 use Rattle.ix_model.specs.Expansion.FlatDerives.{IsTerminal}
-use Rattle.ix_model.specs.Expansion.SlotPlaces.{HasNext, IsFirst, IsLast}
+use Rattle.ix_model.specs.Expansion.SlotPlaces.{HasNext, IsFirstSlot, IsLastSlot}
 use Rattle.ix_model.specs.Closure.Closed.{Called, start, by_edge, begun, arrived, Edge, waiting, End, ended, Part, empty, scanned, inserted, joined}
 use Rattle.ix_model.specs.Closure.Useful.{sub_at}
 use Rattle.ix_examples.specs.SmallPlans.{call, literal, only_a, cycle, two_alternatives}
@@ -84,10 +84,10 @@ repeated_subs = sub_at 7 0 0 0 ∷ sub_at 1 0 0 0 ∷ sub_at 3 0 0 0 ∷ sub_at 
 next_repeated : (s : ℕ) (x : Sym) → s < 8 → sym_after repeated_nothing s ≡ Some x → HasNext repeated_nothing s (s + 1) x
 next_repeated s x h e = reads_next repeated_nothing planned_repeated s (s + 1) x (h, e, refl)
 
-first_repeated : (s r : ℕ) → s < 8 → (info_at repeated_nothing s).head ≡ r → (info_at repeated_nothing s).dot ≡ 0 → IsFirst repeated_nothing s r
+first_repeated : (s r : ℕ) → s < 8 → (info_at repeated_nothing s).head ≡ r → (info_at repeated_nothing s).dot ≡ 0 → IsFirstSlot repeated_nothing s r
 first_repeated s r h e f = reads_first repeated_nothing planned_repeated s r (h, e, f)
 
-last_repeated : (s r : ℕ) → s < 8 → (info_at repeated_nothing s).head ≡ r → sym_after repeated_nothing s ≡ None → IsLast repeated_nothing s r
+last_repeated : (s r : ℕ) → s < 8 → (info_at repeated_nothing s).head ≡ r → sym_after repeated_nothing s ≡ None → IsLastSlot repeated_nothing s r
 last_repeated s r h e f = reads_last repeated_nothing planned_repeated s r (h, e, f)
 
 edge_list : Edge repeated_nothing 1 0 0 0
@@ -175,7 +175,7 @@ called_alternatives : (q p : ℕ) → Called alternatives q p → (q ≡ 0) × (
 called_alternatives q p start = (refl, refl)
 called_alternatives q p (by_edge rule at slot left (waiting s l k after r mark d h)) = absurd (cc (next_alternatives s after (S.Rule r mark) h).1)
 
-first_not_last : (s r q : ℕ) → IsFirst alternatives s r → IsLast alternatives s q → ⊥
+first_not_last : (s r q : ℕ) → IsFirstSlot alternatives s r → IsLastSlot alternatives s q → ⊥
 first_not_last s r q f g = let a = first_reads alternatives s r f in let b = last_reads alternatives s q g in go s a.0 a.2 b.2
   where
     go : (s : ℕ) → s < 4 → (info_at alternatives s).dot ≡ 0 → sym_after alternatives s ≡ None → ⊥

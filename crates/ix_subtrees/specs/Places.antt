@@ -4,7 +4,7 @@ use Rattle.ix_model.specs.declared.grammar.Mark.{Mark}
 use Rattle.ix_model.specs.declared.rules.Sym.{Sym}
 use Rattle.ix_model.specs.declared.rules.Sym.TheVariants as sym
 use Rattle.ix_model.specs.Expansion.Parts.{Parts}
-use Rattle.ix_model.specs.Expansion.SlotPlaces.{HasNext, IsLast}
+use Rattle.ix_model.specs.Expansion.SlotPlaces.{HasNext, IsLastSlot}
 use Rattle.ix_subtrees.specs.declared.place.Place.{Place}
 
 module _ (plan : Parts) where
@@ -13,7 +13,7 @@ module _ (plan : Parts) where
   rule_group q = length plan.slots + q
 
   pub record IsPlace (slot : ℕ) (place : Place) : Type 0 where
-    pub last : (q : ℕ) → IsLast plan slot q → place.group ≡ rule_group q
+    pub last : (q : ℕ) → IsLastSlot plan slot q → place.group ≡ rule_group q
     pub inner : (v : ℕ) (x : Sym) → HasNext plan slot v x → place.group ≡ slot
     pub before : (v : ℕ) (x : Sym) → HasNext plan v slot x → place.before ≡ Some v
     pub only_before : IfSome place.before (λ v. (x : Sym) × HasNext plan v slot x)

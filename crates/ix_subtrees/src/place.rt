@@ -3,7 +3,7 @@ ghost use Rattle.ix_model.specs.declared.grammar.Mark.{Mark as AMark};
 ghost use Rattle.ix_model.specs.declared.rules.Sym.{Sym as ASym};
 ghost use Rattle.ix_model.specs.declared.rules.Sym.TheVariants.{Rule as ARule};
 ghost use Rattle.ix_model.specs.Expansion.Planned.{IsPlanned};
-ghost use Rattle.ix_model.specs.Expansion.SlotPlaces.{HasNext, IsLast};
+ghost use Rattle.ix_model.specs.Expansion.SlotPlaces.{HasNext, IsLastSlot};
 ghost use Rattle.ix_subtrees.specs.Places.{rule_group, IsPlace, ArePlaces};
 
 use ix_model::{Plan, Sym};
@@ -23,7 +23,7 @@ pub struct Place {
 
 fn group_of(plan: &Plan, slot: u32) -> u64
     requires { slot < length plan.now.slots }
-    ensures last { (q : ℕ) → IsLast plan.now slot q → result ≡ rule_group plan.now q }
+    ensures last { (q : ℕ) → IsLastSlot plan.now slot q → result ≡ rule_group plan.now q }
     ensures inner { (v : ℕ) (x : ASym) → HasNext plan.now slot v x → result ≡ slot }
 {
     match plan.sym(slot) {

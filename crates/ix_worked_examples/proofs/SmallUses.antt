@@ -7,7 +7,7 @@ use Rattle.ix_model.specs.Expansion.Parts.{Parts}
 use Rattle.ix_model.specs.Expansion.Numbered.{syms_at}
 use Rattle.ix_model.specs.Expansion.FlatTrees.{flat_text, flat_node}
 use Rattle.ix_model.specs.Expansion.FlatDerives.{FlatDerives, IsFlatDerivation, IsLine, IsTerminal, TerminalMatches}
-use Rattle.ix_model.specs.Expansion.SlotPlaces.{HasNext, IsLast}
+use Rattle.ix_model.specs.Expansion.SlotPlaces.{HasNext, IsLastSlot}
 use Rattle.ix_model.specs.Closure.Closed.{start, begun, Part, scanned}
 use Rattle.ix_model.specs.Closure.Useful.{sub_at, Useful}
 use Rattle.ix_closure_laws.specs.Reached.{SubReached, as_last, as_prefix}
@@ -60,11 +60,11 @@ no_b after l k r x n part =
 
 pub not_reached : (s l k r : ℕ) → s ≡ 3 → SubReached beginnings s l k r → ⊥
 not_reached s l k r e (as_last rule slot left pivot right w n part) =
-    next_not_last beginnings 3 4 rule (literal 1) (0, 1, 1, _, refl, refl, line_1, refl) (subst (λ (z : ℕ). IsLast beginnings z rule) e n)
+    next_not_last beginnings 3 4 rule (literal 1) (0, 1, 1, _, refl, refl, line_1, refl) (subst (λ (z : ℕ). IsLastSlot beginnings z rule) e n)
 not_reached s l k r e (as_prefix slot after left first pivot right x h n part) =
     no_b after left pivot right x (subst (λ (z : ℕ). HasNext beginnings z after x) e n) (reached_part beginnings planned_beginnings after left pivot right h)
 
-last_beginning : (s q : ℕ) → IsLast beginnings s q → (s ≡ 1) ⊎ (s ≡ 4)
+last_beginning : (s q : ℕ) → IsLastSlot beginnings s q → (s ≡ 1) ⊎ (s ≡ 4)
 last_beginning zero q h = absurd (next_not_last beginnings 0 1 q (literal 0) (0, 0, 0, _, refl, refl, (_, _, refl, refl, refl), refl) h)
 last_beginning (suc zero) q h = inl refl
 last_beginning (suc (suc zero)) q h = absurd (next_not_last beginnings 2 3 q (literal 0) (0, 1, 0, _, refl, refl, line_1, refl) h)

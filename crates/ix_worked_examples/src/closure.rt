@@ -2,17 +2,17 @@ ghost use Rattle.std.specs.Prelude.{◌≡◌, ◌⊎◌, ◌↔◌, ℕ, [], co
 ghost use Rattle.ix_model.specs.declared.rules.Sym.{Sym};
 ghost use Rattle.ix_model.specs.declared.rules.Sym.TheVariants.{Insert};
 ghost use Rattle.ix_model.specs.Expansion.FlatTrees.{flat_text, no_flat};
-ghost use Rattle.ix_model.specs.Expansion.SlotPlaces.{IsFirst, IsLast, HasNext};
+ghost use Rattle.ix_model.specs.Expansion.SlotPlaces.{IsFirstSlot, IsLastSlot, HasNext};
 ghost use Rattle.ix_model.specs.Closure.Closed.{Called, Desc, Edge, End, Part};
 ghost use Rattle.ix_closure_laws.specs.ClosedLaws.{IsCalledFor, Covers, IsLastFrom};
 ghost use Rattle.ix_examples.specs.SmallPlans.{literal, alone, only_a, cycle, nothing, insertion, two_halves};
 
 /// The slots of `S: "a".`: before its literal, and behind it.
 pub fn slots_of_one_literal()
-    ensures first { IsFirst (only_a []) 0 0 }
-    ensures not_first { ¬ (IsFirst (only_a []) 1 0) }
-    ensures last { IsLast (only_a []) 1 0 }
-    ensures not_last { ¬ (IsLast (only_a []) 0 0) }
+    ensures first { IsFirstSlot (only_a []) 0 0 }
+    ensures not_first { ¬ (IsFirstSlot (only_a []) 1 0) }
+    ensures last { IsLastSlot (only_a []) 1 0 }
+    ensures not_last { ¬ (IsLastSlot (only_a []) 0 0) }
     ensures next { HasNext (only_a []) 0 1 (literal 0) }
     ensures none_next { (after : ℕ) (x : Sym) → ¬ (HasNext (only_a []) 1 after x) }
 {}

@@ -7,7 +7,7 @@ use Rattle.ix_model.specs.declared.sub.Sub.{Sub}
 use Rattle.ix_model.specs.Closure.Closed as closed
 use Rattle.ix_model.specs.Expansion.Parts.{Parts}
 use Rattle.ix_model.specs.Expansion.Planned.{IsPlanned}
-use Rattle.ix_model.specs.Expansion.SlotPlaces.{HasNext, IsFirst}
+use Rattle.ix_model.specs.Expansion.SlotPlaces.{HasNext, IsFirstSlot}
 use Rattle.ix_closure_laws.proofs.ClosedLinks.{edge_from}
 use Rattle.ix_model.proofs.SlotPlaces.{same_slot, same_before}
 use Rattle.ix_model.proofs.SlotReaders.{next_reads}
@@ -18,7 +18,7 @@ use Rattle.ix_closure.specs.declared.owed.Owed.TheVariants.{Claim, Edge, End, Ar
 use Rattle.ix_closure.specs.Due.{IsDue, claim, passed, inserted, waits, ends, meets}
 
 -- a dot behind a symbol stands at the beginning of no alternative
-pub next_not_first : (plan : Parts) (s after r : ℕ) (x : Sym) → HasNext plan s after x → IsFirst plan after r → ⊥
+pub next_not_first : (plan : Parts) (s after r : ℕ) (x : Sym) → HasNext plan s after x → IsFirstSlot plan after r → ⊥
 next_not_first plan s after r x h f = let e = same_slot plan after h.0 h.1 (h.2 + 1) r f.0 0 h.5 f.2 in omega (arith, e.2)
 
 -- behind a dot stands one symbol
@@ -66,5 +66,5 @@ module _ (plan : Parts) (planned : IsPlanned plan) (Holds : Fact → Type 0) whe
   cause_of o (meets r k s l e after mark edge end next) = ((s, sy.Rule r mark, next), λ s' y i. arrives s s' l k e after (sy.Rule r mark) y next i (edge, end))
 
   -- the slot of an arrival has its dot behind a symbol
-  pub arrival_not_first : (sub : Sub) → IsDue plan Holds (Arrive sub) → (r : ℕ) → IsFirst plan sub.slot r → ⊥
+  pub arrival_not_first : (sub : Sub) → IsDue plan Holds (Arrive sub) → (r : ℕ) → IsFirstSlot plan sub.slot r → ⊥
   arrival_not_first sub due r first = let n = (cause_of (Arrive sub) due).0 in next_not_first plan n.0 sub.slot r n.1 n.2 first

@@ -9,7 +9,7 @@ use Rattle.ix_model.specs.Expansion.FlatDerives.{IsLine}
 use Rattle.ix_model.specs.Expansion.Numbered.{lines_at}
 use Rattle.ix_model.specs.Expansion.Parts.{Parts}
 use Rattle.ix_model.specs.Expansion.Planned.{IsPlanned}
-use Rattle.ix_model.specs.Expansion.SlotPlaces.{IsFirst}
+use Rattle.ix_model.specs.Expansion.SlotPlaces.{IsFirstSlot}
 use Rattle.ix_model.specs.Expansion.Slots.{IsSlot}
 use Rattle.ix_model.proofs.Readers.{has_line}
 use Rattle.ix_model.proofs.SlotPlaces.{slot_for, same_slot}
@@ -30,7 +30,7 @@ rule_with_alternatives rules r some = by (slice_get rules.flats r) refl
 
 module _ (plan : Parts) (planned : IsPlanned plan) (r : ℕ) where
   -- what is among the first slots is one of the rule's
-  pub first_of : (s : ℕ) → Contains (firsts_of plan r) s → IsFirst plan s r
+  pub first_of : (s : ℕ) → Contains (firsts_of plan r) s → IsFirstSlot plan s r
   first_of s h = firsts_are plan planned r s (rule_with_alternatives plan.rules r (omega (arith, h.1, length-map-range_with_len (first_slot plan r) 0 (length (lines_at plan.rules r))))) h
 
   -- the first slot of an alternative is the slot with its dot at the beginning

@@ -4,7 +4,7 @@ use Rattle.ix_model.specs.Closure.Useful.{sub_at}
 use Rattle.ix_model.specs.declared.rules.Sym.TheVariants as sy
 use Rattle.ix_model.specs.Expansion.Planned.{IsPlanned}
 use Rattle.ix_model.specs.Expansion.FlatDerives.{IsTerminal}
-use Rattle.ix_model.specs.Expansion.SlotPlaces.{HasNext, IsFirst, IsLast}
+use Rattle.ix_model.specs.Expansion.SlotPlaces.{HasNext, IsFirstSlot, IsLastSlot}
 use Rattle.ix_examples.specs.SmallPlans.{call, literal, cycle, insertion, nothing, only_a}
 use Rattle.ix_examples.proofs.SmallPlans.{literal_stands}
 use Rattle.ix_examples.proofs.SmallTexts.{first}
@@ -56,10 +56,10 @@ cycle_stops = stops 0 true 3 (0, 1, 0, _, refl, refl, (_, _, refl, refl, refl), 
 pub nothing_planned : IsPlanned (nothing [])
 nothing_planned = search rules
 
-pub nothing_first : IsFirst (nothing []) 0 0
+pub nothing_first : IsFirstSlot (nothing []) 0 0
 nothing_first = (0, _, refl, (_, _, refl, refl, refl))
 
-pub nothing_last : IsLast (nothing []) 0 0
+pub nothing_last : IsLastSlot (nothing []) 0 0
 nothing_last = (0, _, refl, (_, _, refl, refl, refl))
 
 pub nothing_ends : FollowsDesc (nothing []) 0 0 0 (End 0 0 0 ∷ [])

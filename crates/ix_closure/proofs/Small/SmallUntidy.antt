@@ -4,7 +4,7 @@ use Rattle.ix_model.specs.Closure.Useful.{sub_at}
 use Rattle.ix_model.specs.Closure.Closed as closed
 use Rattle.ix_model.specs.Expansion.Parts.{Parts}
 use Rattle.ix_examples.specs.SmallPlans.{cycle, only_a, two_halves}
-use Rattle.ix_model.specs.Expansion.SlotPlaces.{IsFirst}
+use Rattle.ix_model.specs.Expansion.SlotPlaces.{IsFirstSlot}
 use Rattle.ix_model.specs.Expansion.Slots.{info_at}
 use Rattle.ix_examples.proofs.SmallClosures.{desc_1, part_1}
 use Rattle.ix_examples.proofs.SmallPlans.{planned_a, planned_halves}
@@ -101,7 +101,7 @@ descriptor_balanced =
 
 -- ---- S: A, A. A: "a"; .   the descriptor of a rule that is not called
 
-pub first_of_half : IsFirst (two_halves (codes "a")) 3 1
+pub first_of_half : IsFirstSlot (two_halves (codes "a")) 3 1
 first_of_half = (0, _, refl, (_, _, refl, refl, refl))
 
 half_begins : closed.Desc (two_halves (codes "a")) 3 0 0

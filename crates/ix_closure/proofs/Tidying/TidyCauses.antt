@@ -3,7 +3,7 @@ use Rattle.std.proofs.Common.{◌≡◌, ℕ, ◌≤◌, List, [], ◌∷◌, Co
 use Rattle.ix_model.specs.Closure.Useful.{sub_at}
 use Rattle.ix_model.specs.Expansion.Parts.{Parts}
 use Rattle.ix_model.specs.Expansion.Planned.{IsPlanned}
-use Rattle.ix_model.specs.Expansion.SlotPlaces.{IsFirst}
+use Rattle.ix_model.specs.Expansion.SlotPlaces.{IsFirstSlot}
 use Rattle.ix_model.proofs.SlotReaders.{first_reads}
 use Rattle.ix_cluster.specs.declared.fact.Fact.{Fact}
 use Rattle.ix_cluster.specs.declared.fact.Fact.TheVariants as fact
@@ -27,7 +27,7 @@ use Rattle.ix_closure.proofs.Tidying.OwedTimes.{times_one}
 -- what must be recorded for the fact to be recorded
 abbrev pub HasCause : Parts → State → Fact → Type 0
 HasCause plan state (fact.Desc s l p) =
-    ((r : ℕ) → IsFirst plan s r → IsRecorded state.banks (fact.Called r l)) × (((r : ℕ) → ¬ (IsFirst plan s r)) → (k : ℕ) × IsRecorded state.banks (fact.Part (sub_at s l k p)))
+    ((r : ℕ) → IsFirstSlot plan s r → IsRecorded state.banks (fact.Called r l)) × (((r : ℕ) → ¬ (IsFirstSlot plan s r)) → (k : ℕ) × IsRecorded state.banks (fact.Part (sub_at s l k p)))
 HasCause plan state (fact.Edge r k s l) = IsRecorded state.banks (fact.Claim s l k)
 HasCause plan state (fact.Part sub) = IsEmptyOfCalled plan state sub ⊎ FollowsIn plan state.banks (Arrive sub)
 HasCause plan state _ = Unit {0}

@@ -5,7 +5,7 @@ use Rattle.std.proofs.lemmas.List.Elements.{Contains-append_cases}
 use Rattle.ix_model.specs.declared.sub.Sub.{Sub}
 use Rattle.ix_model.specs.Expansion.Parts.{Parts}
 use Rattle.ix_model.specs.Expansion.Planned.{IsPlanned}
-use Rattle.ix_model.specs.Expansion.SlotPlaces.{IsFirst}
+use Rattle.ix_model.specs.Expansion.SlotPlaces.{IsFirstSlot}
 use Rattle.ix_cluster.specs.declared.fact.Fact.{Fact}
 use Rattle.ix_cluster.specs.declared.fact.Fact.TheVariants as fact
 use Rattle.ix_cluster.specs.Banks.{facts_of}
@@ -80,7 +80,7 @@ module _ (plan : Parts) (planned : IsPlanned plan) (old new : State) (n : ℕ) (
   beside_none (Edge r k s l) (Arrive sub) single due (e, inr (t, m, inl h)) = cc
   beside_none (Edge r k s l) (Arrive sub) single due (e, inr (t, m, inr (z, h))) =
       let slot : t ≡ sub.slot = ap (λ (u : Sub). u.slot) (same_sub h) in
-      arrival_not_first plan planned (IsRecorded new.banks) sub due r (subst (λ (u : ℕ). IsFirst plan u r) slot (first_of plan planned r t m))
+      arrival_not_first plan planned (IsRecorded new.banks) sub due r (subst (λ (u : ℕ). IsFirstSlot plan u r) slot (first_of plan planned r t m))
     where
       same_sub : fact.Part (empty_sub t k) ≡ fact.Part sub → empty_sub t k ≡ sub
       same_sub w = cc

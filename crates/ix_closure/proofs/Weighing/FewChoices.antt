@@ -5,7 +5,7 @@ use Rattle.std.proofs.lemmas.List.Edits.{length-remove}
 use Rattle.std.proofs.lemmas.Option.{slice_get_within}
 use Rattle.ix_model.specs.Expansion.Parts.{Parts}
 use Rattle.ix_model.specs.Expansion.Planned.{IsPlanned}
-use Rattle.ix_model.specs.Expansion.SlotPlaces.{IsFirst}
+use Rattle.ix_model.specs.Expansion.SlotPlaces.{IsFirstSlot}
 use Rattle.ix_model.proofs.SlotReaders.{first_reads}
 use Rattle.ix_cluster.specs.declared.fact.Fact.{Fact}
 use Rattle.ix_cluster.specs.declared.fact.Fact.TheVariants as fact
@@ -33,7 +33,7 @@ module _ (plan : Parts) (planned : IsPlanned plan) where
   tidy_fresh : (state : State) → IsTidy plan state → (m : ℕ) (bank : Bank) → slice_get state.banks m ≡ Some bank → IsFresh plan bank.log
   tidy_fresh state tidy m bank there r k none s h = has_not bank.log (fact.Desc s k k) (λ d. has_none bank.log (fact.Called r k) none (here d))
     where
-      first : IsFirst plan s r
+      first : IsFirstSlot plan s r
       first = first_of plan planned r s h
 
       here : Contains bank.log (fact.Desc s k k) → Contains bank.log (fact.Called r k)

@@ -11,7 +11,7 @@ use Rattle.ix_model.specs.declared.rules.Sym.{Sym}
 use Rattle.ix_model.specs.declared.rules.Sym.TheVariants as sym
 use Rattle.ix_model.specs.Expansion.Parts.{Parts}
 use Rattle.ix_model.specs.Expansion.FlatDerives.{IsTerminal}
-use Rattle.ix_model.specs.Expansion.SlotPlaces.{HasNext, IsFirst, IsLast}
+use Rattle.ix_model.specs.Expansion.SlotPlaces.{HasNext, IsFirstSlot, IsLastSlot}
 
 module _ (plan : Parts) where
   mutual
@@ -25,7 +25,7 @@ module _ (plan : Parts) where
     -- the slot has the descriptor with its rule called at left and its dot at right
     pub data Desc : ℕ → ℕ → ℕ → Type 0 where
       -- a called rule begins each of its alternatives
-      begun : (rule at slot : ℕ) → Called rule at → IsFirst plan slot rule → Desc slot at at
+      begun : (rule at slot : ℕ) → Called rule at → IsFirstSlot plan slot rule → Desc slot at at
       -- where there is a binary subtree, the slot's dot stands at its right end
       arrived : (slot left pivot right : ℕ) → Part slot left pivot right → Desc slot left right
 
@@ -37,12 +37,12 @@ module _ (plan : Parts) where
     -- the cluster of the rule at left has the end right
     pub data End : ℕ → ℕ → ℕ → Type 0 where
       -- a descriptor with its dot at the end of an alternative ends the rule
-      ended : (slot left right rule : ℕ) → Desc slot left right → IsLast plan slot rule → End rule left right
+      ended : (slot left right rule : ℕ) → Desc slot left right → IsLastSlot plan slot rule → End rule left right
 
     -- the slot has the binary subtree from left to right with this pivot
     pub data Part : ℕ → ℕ → ℕ → ℕ → Type 0 where
       -- an empty alternative of a called rule has the empty subtree
-      empty : (rule at slot : ℕ) → Called rule at → IsFirst plan slot rule → IsLast plan slot rule → Part slot at at at
+      empty : (rule at slot : ℕ) → Called rule at → IsFirstSlot plan slot rule → IsLastSlot plan slot rule → Part slot at at at
       -- a descriptor with its dot before a terminal that matches passes it
       scanned : (slot left pivot after right : ℕ) (x : Sym) → Desc slot left pivot → HasNext plan slot after x → IsTerminal plan x pivot right → Part after left pivot right
       -- a descriptor with its dot before an insertion passes it, and takes no character

@@ -7,12 +7,12 @@ use Rattle.ix_model.specs.Expansion.FlatDerives.{IsLine}
 
 module _ (plan : Parts) where
   -- the slot has its dot at the beginning of an alternative of the rule
-  abbrev pub IsFirst : ℕ → ℕ → Type 0
-  IsFirst s rule = (a : ℕ) × (syms : List Sym) × IsSlot plan s rule a 0 × IsLine plan rule a syms
+  abbrev pub IsFirstSlot : ℕ → ℕ → Type 0
+  IsFirstSlot s rule = (a : ℕ) × (syms : List Sym) × IsSlot plan s rule a 0 × IsLine plan rule a syms
 
   -- the slot has its dot at the end of an alternative of the rule
-  abbrev pub IsLast : ℕ → ℕ → Type 0
-  IsLast s rule = (a : ℕ) × (syms : List Sym) × IsSlot plan s rule a (length syms) × IsLine plan rule a syms
+  abbrev pub IsLastSlot : ℕ → ℕ → Type 0
+  IsLastSlot s rule = (a : ℕ) × (syms : List Sym) × IsSlot plan s rule a (length syms) × IsLine plan rule a syms
 
   -- behind the dot of slot s stands x, and slot `after` has its dot behind that x
   abbrev pub HasNext : ℕ → ℕ → Sym → Type 0

@@ -1,7 +1,7 @@
 use Rattle.std.proofs.Common.{rules, ◌⊎◌, ℕ, [], ◌∷◌, ◌++◌, codes, refl, arith}
 use Rattle.ix_model.specs.Closure.Useful.{sub_at}
 use Rattle.ix_examples.specs.SmallPlans.{only_a}
-use Rattle.ix_model.specs.Expansion.SlotPlaces.{IsFirst}
+use Rattle.ix_model.specs.Expansion.SlotPlaces.{IsFirstSlot}
 use Rattle.ix_cluster.specs.declared.fact.Fact.TheVariants as fact
 use Rattle.ix_closure.specs.declared.owed.Owed.TheVariants.{Claim, Arrive}
 use Rattle.ix_closure.specs.Due.{FollowsIn, IsRecorded}
@@ -20,7 +20,7 @@ with_subtree = alone (a_called ++ fact.Part (sub_at 1 0 0 1) ∷ fact.Desc 1 0 1
 subtree_uncaused : IsEmptyOfCalled (only_a (codes "a")) with_subtree (sub_at 1 0 0 1) ⊎ FollowsIn (only_a (codes "a")) with_subtree.banks (Arrive (sub_at 1 0 0 1)) → ⊥
 subtree_uncaused = search rules
 
-not_first : (r : ℕ) → ¬ (IsFirst (only_a (codes "a")) 1 r)
+not_first : (r : ℕ) → ¬ (IsFirstSlot (only_a (codes "a")) 1 r)
 not_first = search rules
 
 no_subtree : (k : ℕ) → IsRecorded (alone (a_called ++ fact.Desc 1 0 1 ∷ []) 0 []).banks (fact.Part (sub_at 1 0 k 1)) → ⊥
