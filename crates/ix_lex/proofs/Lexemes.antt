@@ -3,7 +3,8 @@ use Rattle.std.proofs.Common.{◌≡◌, refl, sym, ap, ap₂, ◌∙◌, subst,
 use Rattle.std.proofs.lemmas.Bool.{eqb-true}
 use Rattle.std.proofs.lemmas.List.{take_at, drop_at, drop_more}
 use Rattle.std.specs.Prelude.{true, false, not, ◌==◌, if◌then◌else◌, IsTrue, option_map, codes}
-use Rattle.ix_model.specs.Spelling.Characters.{is_one_of, is_name_start}
+use Rattle.std.specs.Char.{char_set_contains}
+use Rattle.ix_model.specs.Spelling.Characters.{is_name_start}
 use Rattle.ix_model.specs.Spelling.Words.{NameAt}
 use Rattle.ix_model.specs.Spelling.Spells.{escaped}
 use Rattle.ix_spelling_laws.specs.Reading.Lexing.{Lexeme, word, quote, star, stars, plus, pluses, Read, word_of, digits_of, hex_of, quoted, begins, rest_of, next}
@@ -45,8 +46,8 @@ word_first t x n some e h l =
 
 -- ---- strings
 
-pub quote_unbroken : (q : ℕ) → is_one_of (codes "\"'") q ≡ true → is_one_of (10 ∷ 13 ∷ []) q ≡ false
-quote_unbroken q h = not_false _ (in_all (λ x. not (is_one_of (10 ∷ 13 ∷ []) x)) (codes "\"'") q refl h)
+pub quote_unbroken : (q : ℕ) → char_set_contains (codes "\"'") q ≡ true → char_set_contains (10 ∷ 13 ∷ []) q ≡ false
+quote_unbroken q h = not_false _ (in_all (λ x. not (char_set_contains (10 ∷ 13 ∷ []) x)) (codes "\"'") q refl h)
 
 -- a string by its own characters
 abbrev pub written : ℕ → List ℕ → List ℕ
@@ -73,7 +74,7 @@ pub no_string : (v : Option Read) → option_map (λ w. w.1) v ≡ None → opti
 no_string None e = refl
 no_string (Some v) e = absurd (cc e)
 
-pub string_first : (q : ℕ) (c : List ℕ) (n : ℕ) → IsTrue (is_one_of (codes "\"'") q) → option_map (λ w. w.1) (quoted q c) ≡ Some (drop n c) → n ≤ length c
+pub string_first : (q : ℕ) (c : List ℕ) (n : ℕ) → IsTrue (char_set_contains (codes "\"'") q) → option_map (λ w. w.1) (quoted q c) ≡ Some (drop n c) → n ≤ length c
     → Stands (q ∷ c) (option_map {U = Lexeme × List ℕ} (λ w. (quote w.0, w.1)) (quoted q c)) tok.Quote (n + 1)
 string_first q c n h e l = string_stands q c (quoted q c) n (string_read q (quote_unbroken q h) c) e l
 

@@ -2,7 +2,8 @@
 use Rattle.std.proofs.Common.{◌≡◌, refl, sym, ap, ◌∙◌, subst, ℕ, List, [], ◌∷◌, ◌++◌, Option, Some, None, length, drop}
 use Rattle.std.proofs.lemmas.Bool.{eqb-true, eq-eqb}
 use Rattle.std.specs.Prelude.{Bool, true, false, ◌==◌, if◌then◌else◌, nat_lt, option_map, codes, unwrap_or}
-use Rattle.ix_model.specs.Spelling.Characters.{is_one_of, is_name_start}
+use Rattle.std.specs.Char.{char_set_contains}
+use Rattle.ix_model.specs.Spelling.Characters.{is_name_start}
 use Rattle.ix_model.specs.Spelling.Spacing.{Spacing}
 use Rattle.ix_model.specs.Spelling.Spells.{StringAt, escaped, is_hex_digit}
 use Rattle.ix_spelling_laws.specs.Reading.Lexing as lexing
@@ -41,9 +42,9 @@ mutual
   quoted_ends : (q : ℕ) (c : List ℕ) → QuoteEnds q (quoted q c)
   quoted_ends q [] = tt
   quoted_ends q (x ∷ c) =
-      elim (x == q) as (λ b. QuoteEnds q (if b then closed q c else (if is_one_of (10 ∷ 13 ∷ []) x then None else option_map (push x) (quoted q c)))) [
+      elim (x == q) as (λ b. QuoteEnds q (if b then closed q c else (if char_set_contains (10 ∷ 13 ∷ []) x then None else option_map (push x) (quoted q c)))) [
         | true ↦ closed_ends q c
-        | false ↦ elim (is_one_of (10 ∷ 13 ∷ []) x) as (λ b. QuoteEnds q (if b then None else option_map (push x) (quoted q c))) [
+        | false ↦ elim (char_set_contains (10 ∷ 13 ∷ []) x) as (λ b. QuoteEnds q (if b then None else option_map (push x) (quoted q c))) [
           | true ↦ tt
           | false ↦ pushed q x (quoted q c) (quoted_ends q c)
         ]
@@ -105,7 +106,7 @@ next_ends : (b : List ℕ) → NextEnds b (next b)
 next_ends [] = tt
 next_ends (x ∷ c) =
     choose (is_name_start x) (x ∷ c) _ _ (λ _. tt)
-    (λ _. choose (is_one_of (codes "\"'") x) (x ∷ c) _ _ (λ _. quote_ends x c (quoted x c) (quoted_ends x c))
+    (λ _. choose (char_set_contains (codes "\"'") x) (x ∷ c) _ _ (λ _. quote_ends x c (quoted x c) (quoted_ends x c))
     (λ _. choose (x == 35) (x ∷ c) _ _ (λ _. hex_ends x c (digits_of c) (digits_end c))
     (λ _. choose (x == 42) (x ∷ c) _ _ (λ _. pair_ends x 42 c star stars (λ _. tt) (λ _ h. h))
     (λ _. choose (x == 43) (x ∷ c) _ _ (λ _. pair_ends x 43 c plus pluses (λ _. tt) (λ _ h. h))
@@ -129,7 +130,7 @@ quote_whole : (b r xs : List ℕ) → StringAt b r xs → ((q : ℕ) (c d : List
 quote_whole b r xs (q, h, line, e) ends =
     let fits : begins q r ≡ false = not_begun q r (λ d. ends q (escaped q xs ++ (q ∷ r)) d e) in
     let k : quoted q (escaped q xs ++ (q ∷ r)) ≡ Some (xs, r) = string_reads q xs r line fits in
-    let apart : is_name_start q ≡ false = (see q (in_all (is_one_of visible) (codes "\"'") q refl h)).no_start in
+    let apart : is_name_start q ≡ false = (see q (in_all (char_set_contains visible) (codes "\"'") q refl h)).no_start in
     let t : next (q ∷ (escaped q xs ++ (q ∷ r))) ≡ Some (quote xs, r) = rw (apart, h, k) refl in
     ap next e ∙ t
 

@@ -1,6 +1,7 @@
 -- Single steps over the characters: where spacing, words and numbers end, and what a string's characters add to its content.
 use Rattle.std.specs.Prelude.{ℕ, Bool, true, not, ◌&&◌, ◌||◌, ◌==◌, if◌then◌else◌, ◌+◌, ◌-◌, List, [], ◌∷◌, ◌++◌}
-use Rattle.ix_model.specs.Spelling.Characters.{is_one_of, is_blank, is_name_part}
+use Rattle.std.specs.Char.{char_set_contains}
+use Rattle.ix_model.specs.Spelling.Characters.{is_blank, is_name_part}
 use Rattle.ix_model.specs.Spelling.Words.{gives_back, ends_run}
 use Rattle.ix_spelling_laws.specs.Reading.Lexing.{after}
 
@@ -31,4 +32,4 @@ added out x wanted = if wanted then out ++ x ∷ [] else out
 
 -- whether x may not stand in a string between quotes q; a quote came just before, or not
 abbrev pub breaks : Bool → ℕ → ℕ → Bool
-breaks pending q x = not pending && (not (x == q) && is_one_of (10 ∷ 13 ∷ []) x)
+breaks pending q x = not pending && (not (x == q) && char_set_contains (10 ∷ 13 ∷ []) x)

@@ -1,7 +1,8 @@
 //! The tests of one character.
 
 ghost use Rattle.std.specs.Prelude.{◌≡◌, codes};
-ghost use Rattle.ix_model.specs.Spelling.Characters.{is_one_of, is_blank, is_name_start, is_name_part};
+ghost use Rattle.std.specs.Char.{char_set_contains};
+ghost use Rattle.ix_model.specs.Spelling.Characters.{is_blank, is_name_start, is_name_part};
 ghost use Rattle.ix_model.specs.Spelling.Spells.{is_hex_digit};
 
 use unicode::properties::{GeneralCategory, GeneralCategoryGroup};
@@ -54,7 +55,7 @@ pub fn is_hex_digit(c: char) -> bool
 
 /// Whether a character is a quote.
 pub fn is_quote(c: char) -> bool
-    ensures { result ≡ is_one_of (codes "\"'") c }
+    ensures { result ≡ char_set_contains (codes "\"'") c }
 {
     c == '"' || c == '\''
 }

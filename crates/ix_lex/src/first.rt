@@ -1,7 +1,7 @@
 //! The token with which characters begin.
 
 ghost use Rattle.std.specs.Prelude.{◌≡◌, ◌∷◌, ◌<◌, ◌^◌, length, if◌then◌else◌, IsTrue, Some, codes, option_map};
-ghost use Rattle.ix_model.specs.Spelling.Characters.{is_one_of};
+ghost use Rattle.std.specs.Char.{char_set_contains};
 ghost use Rattle.ix_spelling_laws.specs.Reading.Lexing.{begins, digits_of, hex_of, mark_of, next, plus, pluses, quote, quoted, rest_of, star, stars};
 ghost use Rattle.ix_lex.specs.First.{IsFirstToken, is_there};
 
@@ -13,7 +13,7 @@ use crate::words::{digit_count, word_len};
 /// The string behind its first quote.
 #[tactic(auto, using(crate::proofs::Lexemes::string_first, crate::proofs::Lexemes::no_string))]
 fn string(q: char, rest: &[char]) -> Option<(Tok, usize)>
-    requires { IsTrue (is_one_of (codes "\"'") q) }
+    requires { IsTrue (char_set_contains (codes "\"'") q) }
     ensures { IsFirstToken (q ∷ rest.now) (option_map (λ v. (quote v.0, v.1)) (quoted q rest.now)) result }
 {
     let n = string_len(q, rest)?;

@@ -1,7 +1,8 @@
 -- Whether a terminal stands in the text, and whether a rule has a name: both are answered.
 use Rattle.std.proofs.Common.{◌≡◌, refl, sym, ap, subst, ◌∙◌, ◌⊎◌, ◌+◌, ◌≤◌, ℕ, zero, suc, List, [], ◌∷◌, length, take, drop, Bool, true, false, arith, slice_get, Some}
 use Rattle.std.proofs.lemmas.Slice.Eq.{bytes_eq-Decides}
-use Rattle.std.specs.Prelude.{IsTrue}
+use Rattle.std.specs.Prelude.{IsTrue, Contains}
+use Rattle.std.specs.Char.{char_set_contains}
 use Rattle.std.specs.Str.{bytes_eq}
 use mathlib.Core.Logic.{inl, inr}
 use Rattle.ix_model.specs.declared.grammar.Grammar.{Grammar}
@@ -10,9 +11,10 @@ use Rattle.ix_model.specs.declared.grammar.Member.{Member}
 use Rattle.ix_model.specs.declared.grammar.Member.TheVariants as member
 use Rattle.ix_model.specs.Matching.Classes.{in_class}
 use Rattle.ix_model.specs.Matching.Codes.{bound_value}
-use Rattle.ix_model.specs.Matching.Sets.{IsOneOf, IsOfMember, IsOfSome, InSet}
+use Rattle.ix_model.specs.Matching.Sets.{IsOfMember, IsOfSome, InSet}
 use Rattle.ix_model.specs.Matching.Terminals.{StandsAt}
 use Rattle.ix_model.specs.Grammars.Written.{IsNamed}
+use Rattle.ix_model.proofs.Booleans.{char_set_contains-Decides}
 use Rattle.ix_model.proofs.Decide.{Answered, both, all_three, either, by_test}
 
 same_text : (xs ys : List ℕ) → Answered (xs ≡ ys)
@@ -24,12 +26,11 @@ is_true false = inr (λ h. cc h)
 
 -- ---- terminals
 
-one_of : (c : ℕ) (xs : List ℕ) → Answered (IsOneOf c xs)
-one_of c [] = inr (λ h. h)
-one_of c (x ∷ xs) = either (c ≡ x) (IsOneOf c xs) (grind arith) (one_of c xs)
+contains : (xs : List ℕ) (c : ℕ) → Answered (Contains xs c)
+contains xs c = by_test (Contains xs c) (char_set_contains xs c) (char_set_contains-Decides xs c)
 
 of_member : (c : ℕ) (m : Member) → Answered (IsOfMember c m)
-of_member c (member.Quoted text) = one_of c text
+of_member c (member.Quoted text) = contains text c
 of_member c (member.Code digits) = grind arith
 of_member c (member.Range low high) = both (bound_value low ≤ c) (c ≤ bound_value high) (grind arith) (grind arith)
 of_member c (member.Class name) = is_true (in_class name c)

@@ -1,25 +1,24 @@
 -- Members of a set, one by one.
-use Rattle.std.proofs.Common.{◌≡◌, ℕ, ◌<◌, List, [], ◌∷◌, length, get_or, zero, suc, inl, inr, Any, IsTrue, ◌⊎◌, ⊎_elim, flat_map, not-suc-le-zero, le_of_suc-le-suc}
-use Rattle.std.specs.List.{AllByRecursion}
+use Rattle.std.proofs.Common.{◌≡◌, sym, arith, ℕ, ◌<◌, List, [], ◌∷◌, length, get_or, zero, suc, inl, inr, Any, IsTrue, ◌⊎◌, ⊎_elim, flat_map, not-suc-le-zero, le_of_suc-le-suc}
+use Rattle.std.specs.List.{AllByRecursion, Contains}
+use Rattle.std.proofs.lemmas.List.Elements.{Contains-append_right}
 use Rattle.ix_model.specs.declared.grammar.Member.{Member}
-use Rattle.ix_model.specs.Matching.Sets.{IsOneOf, IsOfMember, IsOfSome}
+use Rattle.ix_model.specs.Matching.Sets.{IsOfMember, IsOfSome}
 use Rattle.std.proofs.lemmas.Bool.{or_cases, or_left, or_right}
 use Rattle.unicode.specs.GeneralCategory.{general_category}
 use Rattle.ix_model.specs.declared.grammar.Member.TheVariants as member
 use Rattle.ix_sets.specs.Kinds.{has_category, IsWritten}
 use Rattle.ix_sets.proofs.Categories.{IsNamed}
-use Rattle.ix_sets.proofs.Gaining.{SomeOf, some_of_any, any_of_some}
+use Rattle.ix_sets.proofs.Gaining.{SomeOf, some_at, some_of_any, any_of_some}
 use Rattle.ix_model.proofs.AllOf.{all_left, all_right}
 
-pub one_of_some : (c : ℕ) (xs : List ℕ) → SomeOf (λ x. c ≡ x) xs → IsOneOf c xs
-one_of_some c [] h = h
-one_of_some c (x ∷ xs) (inl h) = inl h
-one_of_some c (x ∷ xs) (inr h) = inr (one_of_some c xs h)
+pub contains_some : (c : ℕ) (xs : List ℕ) → SomeOf (λ x. c ≡ x) xs → Contains xs c
+contains_some c [] h = absurd h
+contains_some c (x ∷ xs) (inl h) = (0, omega arith, sym h)
+contains_some c (x ∷ xs) (inr h) = Contains-append_right (x ∷ []) xs c (contains_some c xs h)
 
-pub some_of_one : (c : ℕ) (xs : List ℕ) → IsOneOf c xs → SomeOf (λ x. c ≡ x) xs
-some_of_one c [] h = h
-some_of_one c (x ∷ xs) (inl h) = inl h
-some_of_one c (x ∷ xs) (inr h) = inr (some_of_one c xs h)
+pub some_contained : (c : ℕ) (xs : List ℕ) → Contains xs c → SomeOf (λ x. c ≡ x) xs
+some_contained c xs (k, h, is) = some_at (λ x. c ≡ x) xs k c h (sym is)
 
 -- ---- members that are classes, and others
 

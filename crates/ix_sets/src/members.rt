@@ -1,11 +1,11 @@
 //! The members of a set, as ranges in any order, which may overlap or touch.
 
 ghost use Rattle.std.specs.Prelude.{◌≡◌, ◌≤◌, OnOk};
-ghost use Rattle.std.specs.List.{AllByRecursion, Any, flat_map};
+ghost use Rattle.std.specs.List.{AllByRecursion, Any, Contains, flat_map};
 ghost use Rattle.ix_model.specs.Grammars.Breach.{IsCodePoint};
 ghost use Rattle.ix_model.specs.Matching.Codes.{code_value, bound_value};
 ghost use Rattle.ix_model.specs.Grammars.Factors.{codes_of_bound, codes_of_member};
-ghost use Rattle.ix_model.specs.Matching.Sets.{IsOneOf, IsOfSome};
+ghost use Rattle.ix_model.specs.Matching.Sets.{IsOfSome};
 ghost use Rattle.ix_model.specs.Spelling.Spells.{IsHex};
 ghost use Rattle.ix_sets.specs.Gains.{Gains};
 ghost use Rattle.ix_sets.specs.Kinds.{IsWritten};
@@ -45,7 +45,7 @@ fn push_range(ranges: &mut Vec<(u32, u32)>, low: u32, high: u32) -> Result<(), A
 
 /// Adds each character of a string.
 fn push_text(ranges: &mut Vec<(u32, u32)>, text: &[char]) -> Result<(), AllocError>
-    ensures { OnOk result (Gains ranges.old.items ranges.new.items (λ c. IsOneOf c text.now)) }
+    ensures { OnOk result (Gains ranges.old.items ranges.new.items (λ c. Contains text.now c)) }
 {
     for c in text {
         push_range(ranges, *c as u32, *c as u32)?;

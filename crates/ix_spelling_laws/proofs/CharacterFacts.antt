@@ -2,6 +2,7 @@
 use Rattle.std.proofs.Common.{◌≡◌, refl, ap, ◌∙◌, ℕ, List, [], ◌∷◌, ◌⊎◌, inl, inr}
 use Rattle.std.specs.Prelude.{Bool, true, false, not, ◌&&◌, ◌||◌, ◌==◌, codes}
 use Rattle.std.specs.List.{list_all}
+use Rattle.std.specs.Char.{char_set_contains}
 use Rattle.std.proofs.lemmas.Bool.{eqb-true}
 use Rattle.unicode.specs.GeneralCategoryGroup.{in_group}
 use Rattle.ucd_category.specs.declared.GeneralCategory.{GeneralCategory}
@@ -10,7 +11,7 @@ use Rattle.ucd_category.specs.declared.GeneralCategoryGroup.TheVariants.{Letter}
 use Rattle.unicode.specs.GeneralCategory.{general_category}
 use Rattle.unicode.specs.Rows.{value_in}
 use Rattle.ucd_category.specs.GeneralCategoryRows.{general_category_rows}
-use Rattle.ix_model.specs.Spelling.Characters.{is_one_of, is_blank, is_name_start, is_name_part, is_space, is_digit_or_mark}
+use Rattle.ix_model.specs.Spelling.Characters.{is_blank, is_name_start, is_name_part, is_space, is_digit_or_mark}
 use Rattle.ix_model.proofs.Booleans.{both, not_false, in_all}
 
 pub stop_is_part : is_name_part 46 ≡ true
@@ -38,7 +39,7 @@ pub record IsVisible (x : ℕ) : Type 0 where
   pub no_start : is_name_start x ≡ false
   pub no_brace : (x == 123) ≡ false
 
-pub see : (x : ℕ) → is_one_of visible x ≡ true → IsVisible x
+pub see : (x : ℕ) → char_set_contains visible x ≡ true → IsVisible x
 see x h =
     let a = in_all is_apart visible x visible_apart h in
     let b = both (not (is_blank x)) _ a in
@@ -87,7 +88,7 @@ no_space x (inr h) = elim (is_space (general_category x)) as (λ b. is_space (ge
 
 pub start_no_blank : (x : ℕ) → is_name_start x ≡ true → is_blank x ≡ false
 unfolding is_blank
-start_no_blank x h = elim (is_one_of (9 ∷ 10 ∷ 13 ∷ []) x) as (λ b. is_one_of (9 ∷ 10 ∷ 13 ∷ []) x ≡ b → b || is_space (general_category x) ≡ false) [
+start_no_blank x h = elim (char_set_contains (9 ∷ 10 ∷ 13 ∷ []) x) as (λ b. char_set_contains (9 ∷ 10 ∷ 13 ∷ []) x ≡ b → b || is_space (general_category x) ≡ false) [
   | true ↦ λ e. absurd (cc (h, not_false _ (in_all (λ x. not (is_name_start x)) (9 ∷ 10 ∷ 13 ∷ []) x blanks e)))
   | false ↦ λ _. no_space x (start_of x h)
 ] refl
@@ -111,14 +112,14 @@ points_no_space = refl
 space_to_no_part : (x : ℕ) → is_space (general_category x) ≡ true → is_name_start x ≡ false → is_name_part x ≡ false
 unfolding is_name_part is_name_start
 space_to_no_part x h s =
-    elim (is_one_of (45 ∷ 46 ∷ 183 ∷ 8255 ∷ 8256 ∷ []) x) as (λ b. is_one_of (45 ∷ 46 ∷ 183 ∷ 8255 ∷ 8256 ∷ []) x ≡ b → ((x == 95) || in_group Letter (general_category x)) || b || is_digit_or_mark (general_category x) ≡ false) [
+    elim (char_set_contains (45 ∷ 46 ∷ 183 ∷ 8255 ∷ 8256 ∷ []) x) as (λ b. char_set_contains (45 ∷ 46 ∷ 183 ∷ 8255 ∷ 8256 ∷ []) x ≡ b → ((x == 95) || in_group Letter (general_category x)) || b || is_digit_or_mark (general_category x) ≡ false) [
       | true ↦ λ e. absurd (cc (h, not_false _ (in_all (λ x. not (is_space (general_category x))) (45 ∷ 46 ∷ 183 ∷ 8255 ∷ 8256 ∷ []) x points_no_space e)))
       | false ↦ λ _. rw (s, space_no_part _ h) refl
     ] refl
 
-blank_of : (x : ℕ) → is_blank x ≡ true → (is_one_of (9 ∷ 10 ∷ 13 ∷ []) x ≡ true) ⊎ (is_space (general_category x) ≡ true)
+blank_of : (x : ℕ) → is_blank x ≡ true → (char_set_contains (9 ∷ 10 ∷ 13 ∷ []) x ≡ true) ⊎ (is_space (general_category x) ≡ true)
 unfolding is_blank
-blank_of x h = elim (is_one_of (9 ∷ 10 ∷ 13 ∷ []) x) as (λ b. is_one_of (9 ∷ 10 ∷ 13 ∷ []) x ≡ b → b || is_space (general_category x) ≡ true → (is_one_of (9 ∷ 10 ∷ 13 ∷ []) x ≡ true) ⊎ (is_space (general_category x) ≡ true)) [
+blank_of x h = elim (char_set_contains (9 ∷ 10 ∷ 13 ∷ []) x) as (λ b. char_set_contains (9 ∷ 10 ∷ 13 ∷ []) x ≡ b → b || is_space (general_category x) ≡ true → (char_set_contains (9 ∷ 10 ∷ 13 ∷ []) x ≡ true) ⊎ (is_space (general_category x) ≡ true)) [
   | true ↦ λ e _. inl e
   | false ↦ λ _ m. inr m
 ] refl h
@@ -132,7 +133,7 @@ blank_no_start x h = elim (is_name_start x) as (λ b. is_name_start x ≡ b → 
 pub blank_no_part : (x : ℕ) → is_blank x ≡ true → is_name_part x ≡ false
 blank_no_part x h = go (blank_of x h)
   where
-    go : (is_one_of (9 ∷ 10 ∷ 13 ∷ []) x ≡ true) ⊎ (is_space (general_category x) ≡ true) → is_name_part x ≡ false
+    go : (char_set_contains (9 ∷ 10 ∷ 13 ∷ []) x ≡ true) ⊎ (is_space (general_category x) ≡ true) → is_name_part x ≡ false
     go (inl e) = not_false _ (in_all (λ x. not (is_name_part x)) (9 ∷ 10 ∷ 13 ∷ []) x blanks_no_part e)
     go (inr e) = space_to_no_part x e (blank_no_start x h)
 
@@ -143,7 +144,7 @@ letters = refl
 
 -- a digit of a number begins a word, or no token at all
 abbrev pub begins_none : ℕ → Bool
-begins_none x = not (is_one_of (codes "\"'#*+@^-:=;|,.?()[]~") x)
+begins_none x = not (char_set_contains (codes "\"'#*+@^-:=;|,.?()[]~") x)
 
 abbrev is_digit_apart : ℕ → Bool
 is_digit_apart x = not (is_blank x) && (not (x == 123) && (is_name_start x || begins_none x))
@@ -157,7 +158,7 @@ pub record IsDigitApart (x : ℕ) : Type 0 where
   pub no_brace : (x == 123) ≡ false
   pub either : is_name_start x || begins_none x ≡ true
 
-pub digit_apart : (x : ℕ) → is_one_of (codes "0123456789abcdefABCDEF") x ≡ true → IsDigitApart x
+pub digit_apart : (x : ℕ) → char_set_contains (codes "0123456789abcdefABCDEF") x ≡ true → IsDigitApart x
 digit_apart x h =
     let a = both (not (is_blank x)) _ (in_all is_digit_apart (codes "0123456789abcdefABCDEF") x digits_apart h) in
     let b = both (not (x == 123)) _ a.1 in

@@ -3,7 +3,8 @@ use Rattle.std.proofs.Common.{◌≡◌, refl, sym, ap, ap₂, ◌∙◌, subst,
 use Rattle.std.proofs.lemmas.Bool.{eqb-true, eq-eqb}
 use Rattle.std.specs.Prelude.{Bool, true, false, ◌&&◌, ◌==◌, if◌then◌else◌, IsTrue, option_map}
 use Rattle.std.specs.List.{AllByRecursion}
-use Rattle.ix_model.specs.Spelling.Characters.{is_one_of, is_name_part}
+use Rattle.std.specs.Char.{char_set_contains}
+use Rattle.ix_model.specs.Spelling.Characters.{is_name_part}
 use Rattle.ix_model.specs.Spelling.Words.{IsRun, gives_back, ends_run, IsWord}
 use Rattle.ix_model.specs.Spelling.Spells.{escaped, IsOneLine, is_hex_digit}
 use Rattle.ix_model.proofs.Booleans.{both, and_false, not_false, false_not}
@@ -128,11 +129,11 @@ abbrev pub IsClosedRest : ℕ → List ℕ → Option Read → Type 0
 IsClosedRest q c None = Unit {0}
 IsClosedRest q c (Some v) = IsOneLine v.0 × (q ∷ c ≡ escaped q v.0 ++ (q ∷ v.1))
 
-on_push : (q x : ℕ) (c : List ℕ) (v : Option Read) → (x == q) ≡ false → is_one_of (10 ∷ 13 ∷ []) x ≡ false → IsStringRest q c v → IsStringRest q (x ∷ c) (option_map (push x) v)
+on_push : (q x : ℕ) (c : List ℕ) (v : Option Read) → (x == q) ≡ false → char_set_contains (10 ∷ 13 ∷ []) x ≡ false → IsStringRest q c v → IsStringRest q (x ∷ c) (option_map (push x) v)
 on_push q x c None p n h = tt
 on_push q x c (Some v) p n h = ((rw n refl, h.0), rw p (ap (λ z. x ∷ z) h.1))
 
-on_double : (q y : ℕ) (c : List ℕ) (v : Option Read) → y ≡ q → is_one_of (10 ∷ 13 ∷ []) q ≡ false → IsStringRest q c v → IsClosedRest q (y ∷ c) (option_map (push q) v)
+on_double : (q y : ℕ) (c : List ℕ) (v : Option Read) → y ≡ q → char_set_contains (10 ∷ 13 ∷ []) q ≡ false → IsStringRest q c v → IsClosedRest q (y ∷ c) (option_map (push q) v)
 on_double q y c None p n h = tt
 on_double q y c (Some v) p n h = ((rw n refl, h.0), rw (eq-eqb q q refl) (ap₂ (λ (a : ℕ) (z : List ℕ). q ∷ a ∷ z) p h.1))
 
@@ -141,18 +142,18 @@ on_closed q x c None p h = tt
 on_closed q x c (Some v) p h = (h.0, ap (λ (y : ℕ). y ∷ c) p ∙ h.1)
 
 mutual
-  pub string_read : (q : ℕ) → is_one_of (10 ∷ 13 ∷ []) q ≡ false → (c : List ℕ) → IsStringRest q c (quoted q c)
+  pub string_read : (q : ℕ) → char_set_contains (10 ∷ 13 ∷ []) q ≡ false → (c : List ℕ) → IsStringRest q c (quoted q c)
   string_read q n [] = tt
   string_read q n (x ∷ c) =
-      elim (x == q) as (λ b. (x == q) ≡ b → IsStringRest q (x ∷ c) (if b then closed q c else (if is_one_of (10 ∷ 13 ∷ []) x then None else option_map (push x) (quoted q c)))) [
+      elim (x == q) as (λ b. (x == q) ≡ b → IsStringRest q (x ∷ c) (if b then closed q c else (if char_set_contains (10 ∷ 13 ∷ []) x then None else option_map (push x) (quoted q c)))) [
         | true ↦ λ h. on_closed q x c (closed q c) (eqb-true x q h) (closed_read q n c)
-        | false ↦ λ p. elim (is_one_of (10 ∷ 13 ∷ []) x) as (λ b. is_one_of (10 ∷ 13 ∷ []) x ≡ b → IsStringRest q (x ∷ c) (if b then None else option_map (push x) (quoted q c))) [
+        | false ↦ λ p. elim (char_set_contains (10 ∷ 13 ∷ []) x) as (λ b. char_set_contains (10 ∷ 13 ∷ []) x ≡ b → IsStringRest q (x ∷ c) (if b then None else option_map (push x) (quoted q c))) [
           | true ↦ λ h. tt
           | false ↦ λ h. on_push q x c (quoted q c) p h (string_read q n c)
         ] refl
       ] refl
 
-  closed_read : (q : ℕ) → is_one_of (10 ∷ 13 ∷ []) q ≡ false → (c : List ℕ) → IsClosedRest q c (closed q c)
+  closed_read : (q : ℕ) → char_set_contains (10 ∷ 13 ∷ []) q ≡ false → (c : List ℕ) → IsClosedRest q c (closed q c)
   closed_read q n [] = (tt, refl)
   closed_read q n (y ∷ c) =
       elim (y == q) as (λ b. (y == q) ≡ b → IsClosedRest q (y ∷ c) (if b then option_map (push q) (quoted q c) else Some ([], y ∷ c))) [

@@ -2,11 +2,13 @@
 use Rattle.std.proofs.Common.{◌≡◌, refl, sym, ap, ◌∙◌, subst, ℕ, List, [], ◌∷◌, length, ◌<◌, ◌⊎◌, inl, inr, arith, Option, Some, None}
 use Rattle.std.proofs.lemmas.Bool.{lt-ltb, le-ltb, eqb-true}
 use Rattle.std.specs.Prelude.{Bool, true, false, ◌||◌, ◌==◌, if◌then◌else◌, codes, option_map}
+use Rattle.std.specs.Char.{char_set_contains}
 use Rattle.ix_model.specs.declared.grammar.Grammar.{Grammar}
 use Rattle.ix_model.specs.declared.grammar.Factor.{Factor}
-use Rattle.ix_model.specs.Spelling.Characters.{is_one_of, is_blank, is_name_start}
+use Rattle.ix_model.specs.Spelling.Characters.{is_blank, is_name_start}
 use Rattle.ix_model.specs.Spelling.Spacing.{S, RS, no_spacing}
 use Rattle.ix_model.specs.Spelling.Spells.{is_hex_digit}
+use Rattle.ix_model.proofs.Booleans.{eqb-sym}
 use Rattle.ix_spelling_laws.specs.Reading.Lexing.{Lexeme, word, quote, star, stars, plus, pluses, Token, after, has_gap, Lexes, next, Read, quoted, word_of, begins, mark_of, rest_of}
 use Rattle.ix_spelling_laws.specs.Reading.Tokens.{TokenAt}
 use Rattle.ix_spelling_laws.specs.Reading.Machine as M
@@ -94,7 +96,7 @@ quote_lexeme : (v : Option Read) (k : Lexeme) (r : List ℕ) → option_map quot
 quote_lexeme None k r e = absurd (cc e)
 quote_lexeme (Some v) k r e = (v.0, same_lexeme (quote v.0, v.1) (k, r) e)
 
-quote_first : (x : ℕ) (c : List ℕ) (k : Lexeme) (r : List ℕ) → is_name_start x ≡ false → is_one_of (codes "\"'") x ≡ true → next (x ∷ c) ≡ Some (k, r) → (xs : List ℕ) × (k ≡ quote xs)
+quote_first : (x : ℕ) (c : List ℕ) (k : Lexeme) (r : List ℕ) → is_name_start x ≡ false → char_set_contains (codes "\"'") x ≡ true → next (x ∷ c) ≡ Some (k, r) → (xs : List ℕ) × (k ≡ quote xs)
 quote_first x c k r a b e =
     let q : next (x ∷ c) ≡ option_map quote_pair (quoted x c) = rw (a, b) refl in
     quote_lexeme (quoted x c) k r (sym q ∙ e)
@@ -102,7 +104,7 @@ quote_first x c k r a b e =
 abbrev TakesNoQuote : M.Phase → M.Work → Type 0
 TakesNoQuote p w = (xs : List ℕ) (a : Bool) → M.step p w a (quote xs) ≡ None
 
-not_quote : (p : M.Phase) (w : M.Work) (n : ℕ) (r : List ℕ) (g : Grammar) → is_one_of (codes "\"'") n ≡ true → is_one_of visible n ≡ true → TakesNoQuote p w → Accepts p w r g → begins n r ≡ false
+not_quote : (p : M.Phase) (w : M.Work) (n : ℕ) (r : List ℕ) (g : Grammar) → char_set_contains (codes "\"'") n ≡ true → char_set_contains visible n ≡ true → TakesNoQuote p w → Accepts p w r g → begins n r ≡ false
 not_quote p w n [] g m v f h = refl
 not_quote p w n (x ∷ c) g m v f h =
     elim (x == n) as (λ b. (x == n) ≡ b → b ≡ false) [
@@ -112,9 +114,9 @@ not_quote p w n (x ∷ c) g m v f h =
   where
     no : x ≡ n → ⊥
     no e =
-        let i = see x (ap (is_one_of visible) e ∙ v) in
+        let i = see x (ap (char_set_contains visible) e ∙ v) in
         let u = first p w x c g i.no_blank i.no_brace h in
-        let q = quote_first x c u.lexeme u.rest i.no_start (ap (is_one_of (codes "\"'")) e ∙ m) u.is_next in
+        let q = quote_first x c u.lexeme u.rest i.no_start (ap (char_set_contains (codes "\"'")) e ∙ m) u.is_next in
         u.stands (ap (M.step p w u.gap) q.1 ∙ f q.0 u.gap)
 
 pub no_quote : (p : M.Phase) (w : M.Work) (r : List ℕ) (g : Grammar) → TakesNoQuote p w → Accepts p w r g → (begins 34 r ≡ false) × (begins 39 r ≡ false)
@@ -130,9 +132,9 @@ other_than x n m h =
       | false ↦ λ _. refl
     ] refl
 
-none_of : (x : ℕ) → begins_none x ≡ true → (is_one_of (codes "\"'") x ≡ false) × ((x == 35) ≡ false) × ((x == 42) ≡ false) × ((x == 43) ≡ false) × (mark_of x ≡ None)
+none_of : (x : ℕ) → begins_none x ≡ true → (char_set_contains (codes "\"'") x ≡ false) × ((x == 35) ≡ false) × ((x == 42) ≡ false) × ((x == 43) ≡ false) × (mark_of x ≡ None)
 none_of x h = (
-  rw (other_than x 34 refl h, other_than x 39 refl h) refl,
+  rw (eqb-sym 34 x ∙ other_than x 34 refl h, eqb-sym 39 x ∙ other_than x 39 refl h) refl,
   other_than x 35 refl h,
   other_than x 42 refl h,
   other_than x 43 refl h,

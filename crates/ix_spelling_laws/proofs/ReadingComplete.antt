@@ -2,6 +2,7 @@
 use Rattle.std.proofs.Common.{◌≡◌, ◌≢◌, refl, sym, ap, ap₂, ◌∙◌, subst, ℕ, List, [], ◌∷◌, ◌++◌, length, ◌<◌, ◌⊎◌, inl, inr, arith, Option, Some, None, append_assoc}
 use Rattle.std.proofs.lemmas.Bool.{lt-ltb}
 use Rattle.std.specs.Prelude.{Bool, true, false, ◌&&◌, if◌then◌else◌, IsTrue, codes}
+use Rattle.std.specs.Char.{char_set_contains}
 use Rattle.ix_model.specs.declared.grammar.Grammar.{Grammar}
 use Rattle.ix_model.specs.declared.grammar.Rule.{Rule}
 use Rattle.ix_model.specs.declared.grammar.Mark.{Mark}
@@ -17,7 +18,7 @@ use Rattle.ix_model.specs.declared.grammar.Bound.TheVariants as bound
 use Rattle.ix_model.specs.declared.grammar.Alt.{Alt}
 use Rattle.ix_model.specs.declared.grammar.Term.{Term, One, Opt, Star, Plus}
 use Rattle.ix_model.specs.declared.grammar.Factor.{Factor, Lit, Set, Call, Insert, Group}
-use Rattle.ix_model.specs.Spelling.Characters.{is_one_of, is_name_start, is_name_part}
+use Rattle.ix_model.specs.Spelling.Characters.{is_name_start, is_name_part}
 use Rattle.ix_model.specs.Spelling.Spacing.{Takes, S, RS}
 use Rattle.ix_model.specs.Spelling.Words.{NameAt, ends_run}
 use Rattle.ix_model.specs.Spelling.Spacing as Sg
@@ -455,7 +456,7 @@ module _ (g : Grammar) where
   ends_behind c d (Sg.blank x _ _ h s) n = false_not _ (blank_no_part x h)
   ends_behind c d (Sg.comment _ _ _ (Sg.braces _ e f _ h i j) s) n = subst (λ (z : List ℕ). IsTrue (ends_run z)) (sym h) (false_not _ brace_no_part)
 
-  letter : (x : ℕ) → is_one_of (codes "ixmlversion") x ≡ true → (is_name_start x ≡ true) × (is_name_part x ≡ true)
+  letter : (x : ℕ) → char_set_contains (codes "ixmlversion") x ≡ true → (is_name_start x ≡ true) × (is_name_part x ≡ true)
   letter x h = both (is_name_start x) (is_name_part x) (in_all (λ x. is_name_start x && is_name_part x) (codes "ixmlversion") x letters h)
 
   ixml_name : (b c d : List ℕ) → Takes (codes "ixml") b c → RS c d → NameAt b c (codes "ixml")

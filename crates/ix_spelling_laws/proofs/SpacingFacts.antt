@@ -4,6 +4,7 @@ use Rattle.std.proofs.lemmas.Bool.{eqb-true}
 use Rattle.std.specs.Prelude.{Bool, true, false, not, ◌||◌, ◌==◌, if◌then◌else◌, IsTrue, codes}
 use Rattle.ix_model.specs.Spelling.Characters.{is_blank}
 use Rattle.ix_model.specs.Spelling.Spacing.{Takes, Spacing, no_spacing, blank, comment, Comment, braces, Inside, end_inside, other, nested, AllSpacing}
+use Rattle.ix_model.proofs.Booleans.{eqb-sym}
 use Rattle.ix_spelling_laws.specs.Reading.Lexing.{spaced, after}
 use Rattle.ix_spelling_laws.proofs.CharacterFacts.{brace_no_blank}
 
@@ -24,8 +25,8 @@ mutual
   inside_runs : (c d : List ℕ) → Inside c d → (r : List ℕ) → Takes (codes "}") d r → (n : ℕ) (s : List ℕ) → spaced (suc n) s c ≡ spaced n s r
   inside_runs c d (end_inside _) r f n s = ap (spaced (suc n) s) f
   inside_runs c d (other x c1 _ h k) r f n s =
-      let p = neither (x == 123) (x == 125) h in
-      rw (p.0, p.1) (inside_runs c1 d k r f n s)
+      let p = neither (123 == x) (125 == x) h in
+      rw (eqb-sym x 123 ∙ p.0, eqb-sym x 125 ∙ p.1) (inside_runs c1 d k r f n s)
   inside_runs c d (nested _ c1 _ h k) r f n s = comment_runs c c1 h n s ∙ inside_runs c1 d k r f n s
 
 pub spacing_runs : (c r : List ℕ) → Spacing c r → after c ≡ after r
@@ -46,7 +47,7 @@ Ends (suc n) s c r = (r ≡ s) ⊎ Closes (suc n) c r
 
 closes_other : (n x : ℕ) (s c r : List ℕ) → (x == 123) ≡ false → (x == 125) ≡ false → Ends (suc n) s c r → Ends (suc n) s (x ∷ c) r
 closes_other n x s c r p q (inl h) = inl h
-closes_other n x s c r p q (inr (d, e, h, f, k)) = inr (d, e, other x c d (rw (p, q) refl) h, f, k)
+closes_other n x s c r p q (inr (d, e, h, f, k)) = inr (d, e, other x c d (rw (eqb-sym 123 x ∙ p, eqb-sym 125 x ∙ q) refl) h, f, k)
 
 closes_open : (n x : ℕ) (s c r : List ℕ) → x ≡ 123 → Ends (suc (suc n)) s c r → Ends (suc n) s (x ∷ c) r
 closes_open n x s c r p (inl h) = inl h

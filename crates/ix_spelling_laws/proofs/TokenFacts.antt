@@ -1,12 +1,13 @@
 -- Tokens as a relation and as a function.
-use Rattle.std.proofs.Common.{◌≡◌, refl, sym, ap, ap₂, ◌∙◌, subst, ℕ, List, [], ◌∷◌, ◌++◌, ◌⊎◌, inl, inr, Option, Some, None}
+use Rattle.std.proofs.Common.{◌≡◌, refl, sym, ap, ap₂, ◌∙◌, subst, ℕ, zero, suc, List, [], ◌∷◌, ◌++◌, ◌⊎◌, inl, inr, arith, Option, Some, None}
 use Rattle.std.proofs.lemmas.Bool.{eqb-true}
 use Rattle.std.specs.Prelude.{Bool, true, false, not, ◌||◌, ◌==◌, if◌then◌else◌, IsTrue, codes, option_map}
-use Rattle.std.specs.List.{AllByRecursion}
-use Rattle.ix_model.specs.Spelling.Characters.{is_one_of, is_blank, is_name_start, is_name_part}
+use Rattle.std.specs.List.{AllByRecursion, Contains}
+use Rattle.std.specs.Char.{char_set_contains}
+use Rattle.ix_model.specs.Spelling.Characters.{is_blank, is_name_start, is_name_part}
 use Rattle.ix_model.specs.Spelling.Words.{IsWord, NameAt, ends_run}
 use Rattle.ix_model.specs.Spelling.Spells.{escaped, IsOneLine, is_hex_digit}
-use Rattle.ix_model.proofs.Booleans.{not_false}
+use Rattle.ix_model.proofs.Booleans.{not_false, char_set_contains-Decides}
 use Rattle.ix_spelling_laws.specs.Reading.Lexing.{Lexeme, word, quote, hex, at, caret, dash, colon, equals, semi, bar, comma, stop, question, star, stars, plus, pluses, open_group, close_group, open_set, close_set, tilde, after, Read, word_of, digits_of, hex_of, quoted, begins, rest_of, mark_of, next}
 use Rattle.ix_spelling_laws.specs.Reading.Tokens.{TokenAt}
 use Rattle.ix_spelling_laws.proofs.CharacterFacts.{visible, see, start_is_part, start_no_brace, start_no_blank}
@@ -55,7 +56,7 @@ word_next x c h v w = go v.0 w
         head : x ∷ c ≡ y ∷ (ys ++ v.1) → x ≡ y
         head e = cc e
 
-quote_next : (x : ℕ) (c : List ℕ) → is_one_of (codes "\"'") x ≡ true → (v : Option Read) → IsStringRest x c v → OnNext (x ∷ c) (option_map (λ (v : Read). (quote v.0, v.1)) v)
+quote_next : (x : ℕ) (c : List ℕ) → char_set_contains (codes "\"'") x ≡ true → (v : Option Read) → IsStringRest x c v → OnNext (x ∷ c) (option_map (λ (v : Read). (quote v.0, v.1)) v)
 quote_next x c h None k = tt
 quote_next x c h (Some v) k = (x, h, k.0, ap (λ z. x ∷ z) k.1)
 
@@ -78,24 +79,23 @@ mark_next : (x : ℕ) (c : List ℕ) (m : Option Lexeme) → OnMark x c m → On
 mark_next x c None h = tt
 mark_next x c (Some k) h = h
 
-two : (x a b : ℕ) → is_one_of (a ∷ b ∷ []) x ≡ true → (x ≡ a) ⊎ (x ≡ b)
-two x a b h = elim (x == a) as (λ t. (x == a) ≡ t → t || ((x == b) || false) ≡ true → (x ≡ a) ⊎ (x ≡ b)) [
-  | true ↦ λ e _. inl (eqb-true x a e)
-  | false ↦ λ _ m. inr (go m)
-] refl h
+two : (x a b : ℕ) → char_set_contains (a ∷ b ∷ []) x ≡ true → (x ≡ a) ⊎ (x ≡ b)
+two x a b h = by_place ((char_set_contains-Decides (a ∷ b ∷ []) x).0 h)
   where
-    go : (x == b) || false ≡ true → x ≡ b
-    go m = elim (x == b) as (λ t. (x == b) ≡ t → t || false ≡ true → x ≡ b) [ true ↦ λ e _. eqb-true x b e | false ↦ λ _ k. absurd (cc k) ] refl m
+    by_place : Contains (a ∷ b ∷ []) x → (x ≡ a) ⊎ (x ≡ b)
+    by_place (zero, _, e) = inl (sym e)
+    by_place (suc zero, _, e) = inr (sym e)
+    by_place (suc (suc k), l, e) = absurd (omega (arith, l))
 
-quote_no_break : (x : ℕ) → (x ≡ 34) ⊎ (x ≡ 39) → is_one_of (10 ∷ 13 ∷ []) x ≡ false
-quote_no_break x (inl e) = ap (is_one_of (10 ∷ 13 ∷ [])) e
-quote_no_break x (inr e) = ap (is_one_of (10 ∷ 13 ∷ [])) e
+quote_no_break : (x : ℕ) → (x ≡ 34) ⊎ (x ≡ 39) → char_set_contains (10 ∷ 13 ∷ []) x ≡ false
+quote_no_break x (inl e) = ap (char_set_contains (10 ∷ 13 ∷ [])) e
+quote_no_break x (inr e) = ap (char_set_contains (10 ∷ 13 ∷ [])) e
 
 pub next_read : (b : List ℕ) → OnNext b (next b)
 next_read [] = tt
 next_read (x ∷ c) =
     choose (is_name_start x) (x ∷ c) _ _ (λ h. word_next x c h (word_of (x ∷ c)) (word_read (x ∷ c)))
-    (λ _. choose (is_one_of (codes "\"'") x) (x ∷ c) _ _ (λ h. quote_next x c h (quoted x c) (string_read x (quote_no_break x (two x 34 39 h)) c))
+    (λ _. choose (char_set_contains (codes "\"'") x) (x ∷ c) _ _ (λ h. quote_next x c h (quoted x c) (string_read x (quote_no_break x (two x 34 39 h)) c))
     (λ _. choose (x == 35) (x ∷ c) _ _ (λ h. hex_next x c (eqb-true x 35 h) (digits_of c) (digits_are c))
     (λ _. choose (x == 42) (x ∷ c) _ _ (λ h. pair_next x 42 c star stars (eqb-true x 42 h) (λ _. refl) (λ _. refl))
     (λ _. choose (x == 43) (x ∷ c) _ _ (λ h. pair_next x 43 c plus pluses (eqb-true x 43 h) (λ _. refl) (λ _. refl))
@@ -118,12 +118,12 @@ solid x b c e p q =
     let h : after (x ∷ c) ≡ x ∷ c = rw (p, q) refl in
     subst (λ (z : List ℕ). after z ≡ z) (sym e) h
 
-marked : (x : ℕ) (b c : List ℕ) → b ≡ x ∷ c → is_one_of visible x ≡ true → after b ≡ b
+marked : (x : ℕ) (b c : List ℕ) → b ≡ x ∷ c → char_set_contains visible x ≡ true → after b ≡ b
 marked x b c e h = solid x b c e (see x h).no_blank (see x h).no_brace
 
-quote_seen : (x : ℕ) → (x ≡ 34) ⊎ (x ≡ 39) → is_one_of visible x ≡ true
-quote_seen x (inl e) = ap (is_one_of visible) e
-quote_seen x (inr e) = ap (is_one_of visible) e
+quote_seen : (x : ℕ) → (x ≡ 34) ⊎ (x ≡ 39) → char_set_contains visible x ≡ true
+quote_seen x (inl e) = ap (char_set_contains visible) e
+quote_seen x (inr e) = ap (char_set_contains visible) e
 
 -- no spacing stands before a token
 pub token_solid : (b r : List ℕ) (k : Lexeme) → TokenAt b r k → after b ≡ b
@@ -150,7 +150,7 @@ token_solid b r open_set h = marked 91 b r h refl
 token_solid b r close_set h = marked 93 b r h refl
 token_solid b r tilde h = marked 126 b r h refl
 
-mark_reads : (x : ℕ) (b r : List ℕ) (k : Lexeme) → b ≡ x ∷ r → is_name_start x ≡ false → (is_one_of (codes "\"'") x || ((x == 35) || ((x == 42) || (x == 43)))) ≡ false → mark_of x ≡ Some k → next b ≡ Some (k, r)
+mark_reads : (x : ℕ) (b r : List ℕ) (k : Lexeme) → b ≡ x ∷ r → is_name_start x ≡ false → (char_set_contains (codes "\"'") x || ((x == 35) || ((x == 42) || (x == 43)))) ≡ false → mark_of x ≡ Some k → next b ≡ Some (k, r)
 mark_reads x b r k e p q m = ap next e ∙ go (four _ _ _ _ q)
   where
     four : (t u v w : Bool) → (t || (u || (v || w))) ≡ false → (t ≡ false) × (u ≡ false) × (v ≡ false) × (w ≡ false)
@@ -160,23 +160,23 @@ mark_reads x b r k e p q m = ap next e ∙ go (four _ _ _ _ q)
     four false false true _ h = absurd (cc h)
     four false false false true h = absurd (cc h)
 
-    go : (is_one_of (codes "\"'") x ≡ false) × ((x == 35) ≡ false) × ((x == 42) ≡ false) × ((x == 43) ≡ false) → next (x ∷ r) ≡ Some (k, r)
+    go : (char_set_contains (codes "\"'") x ≡ false) × ((x == 35) ≡ false) × ((x == 42) ≡ false) × ((x == 43) ≡ false) → next (x ∷ r) ≡ Some (k, r)
     go (t, u, v, w) = rw (p, t, u, v, w, m) refl
 
 quote_reads : (q : ℕ) (xs r : List ℕ) → (q ≡ 34) ⊎ (q ≡ 39) → IsOneLine xs → (begins 34 r ≡ false) × (begins 39 r ≡ false) → next (q ∷ (escaped q xs ++ (q ∷ r))) ≡ Some (quote xs, r)
 quote_reads q xs r s line f =
     let k : quoted q (escaped q xs ++ (q ∷ r)) ≡ Some (xs, r) = string_reads q xs r line (fits s) in
     let p : is_name_start q ≡ false = (see q (quote_seen q s)).no_start in
-    let t : is_one_of (codes "\"'") q ≡ true = is_quote s in
+    let t : char_set_contains (codes "\"'") q ≡ true = is_quote s in
     rw (p, t, k) refl
   where
     fits : (q ≡ 34) ⊎ (q ≡ 39) → begins q r ≡ false
     fits (inl e) = ap (λ (y : ℕ). begins y r) e ∙ f.0
     fits (inr e) = ap (λ (y : ℕ). begins y r) e ∙ f.1
 
-    is_quote : (q ≡ 34) ⊎ (q ≡ 39) → is_one_of (codes "\"'") q ≡ true
-    is_quote (inl e) = ap (is_one_of (codes "\"'")) e
-    is_quote (inr e) = ap (is_one_of (codes "\"'")) e
+    is_quote : (q ≡ 34) ⊎ (q ≡ 39) → char_set_contains (codes "\"'") q ≡ true
+    is_quote (inl e) = ap (char_set_contains (codes "\"'")) e
+    is_quote (inr e) = ap (char_set_contains (codes "\"'")) e
 
 pub token_reads : (b r : List ℕ) (k : Lexeme) → TokenAt b r k → Fits k r → next b ≡ Some (k, r)
 token_reads b r (word n) (e, (x, xs, f, h, run), w) fits =

@@ -1,19 +1,14 @@
 -- The characters that a set matches, member by member.
 -- Source: Invisible XML 1.0, "Character sets".
-use Rattle.std.specs.Prelude.{◌≡◌, ◌⊎◌, ℕ, ◌≤◌, Bool, true, false, List, [], ◌∷◌, IsTrue}
+use Rattle.std.specs.Prelude.{◌≡◌, ◌⊎◌, ℕ, ◌≤◌, Bool, true, false, List, [], ◌∷◌, IsTrue, Contains}
 use Rattle.ix_model.specs.declared.grammar.Member.{Member}
 use Rattle.ix_model.specs.declared.grammar.Member.TheVariants as member
 use Rattle.ix_model.specs.Matching.Classes.{in_class}
 use Rattle.ix_model.specs.Matching.Codes.{code_value, bound_value}
 
--- c is one of the characters
-abbrev pub IsOneOf : ℕ → List ℕ → Type 0
-IsOneOf c [] = ⊥
-IsOneOf c (x ∷ xs) = (c ≡ x) ⊎ IsOneOf c xs
-
 -- the member has the character c
 abbrev pub IsOfMember : ℕ → Member → Type 0
-IsOfMember c (member.Quoted text) = IsOneOf c text
+IsOfMember c (member.Quoted text) = Contains text c
 IsOfMember c (member.Code digits) = c ≡ code_value digits
 IsOfMember c (member.Range low high) = (bound_value low ≤ c) × (c ≤ bound_value high)
 IsOfMember c (member.Class name) = IsTrue (in_class name c)

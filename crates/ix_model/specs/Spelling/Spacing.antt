@@ -2,7 +2,8 @@
 -- A relation here goes from characters to those that are left behind what it speaks of.
 -- Source: Invisible XML 1.0, the rules s, RS, whitespace and comment of its grammar.
 use Rattle.std.specs.Prelude.{◌≡◌, ◌≢◌, ℕ, not, List, ◌∷◌, ◌++◌, codes, IsTrue}
-use Rattle.ix_model.specs.Spelling.Characters.{is_one_of, is_blank}
+use Rattle.std.specs.Char.{char_set_contains}
+use Rattle.ix_model.specs.Spelling.Characters.{is_blank}
 
 -- the characters b are the mark and then r
 abbrev pub Takes : List ℕ → List ℕ → List ℕ → Type 0
@@ -22,7 +23,7 @@ mutual
   -- b is characters other than braces, comments among them, and then r
   pub data Inside : List ℕ → List ℕ → Type 0 where
     end_inside : (r : List ℕ) → Inside r r
-    other : (x : ℕ) (c r : List ℕ) → IsTrue (not (is_one_of (codes "{}") x)) → Inside c r → Inside (x ∷ c) r
+    other : (x : ℕ) (c r : List ℕ) → IsTrue (not (char_set_contains (codes "{}") x)) → Inside c r → Inside (x ∷ c) r
     nested : (b c r : List ℕ) → Comment b c → Inside c r → Inside b r
 
 -- spacing may stand here

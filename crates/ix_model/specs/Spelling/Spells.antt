@@ -3,6 +3,7 @@
 -- Source: Invisible XML 1.0, the grammar of grammars, rule by rule.
 use Rattle.std.specs.Prelude.{◌≡◌, ◌≢◌, ◌⊎◌, ℕ, Bool, true, false, not, ◌==◌, ◌&&◌, nat_le, if◌then◌else◌, List, [], ◌∷◌, ◌++◌, codes, IsTrue, Option, Some, None}
 use Rattle.std.specs.List.{AllByRecursion}
+use Rattle.std.specs.Char.{char_set_contains}
 use Rattle.ix_model.specs.declared.grammar.Grammar.{Grammar}
 use Rattle.ix_model.specs.declared.grammar.Rule.{Rule}
 use Rattle.ix_model.specs.declared.grammar.Mark.{Mark}
@@ -18,7 +19,6 @@ use Rattle.ix_model.specs.declared.grammar.Bound.TheVariants as bound
 use Rattle.ix_model.specs.declared.grammar.Alt.{Alt}
 use Rattle.ix_model.specs.declared.grammar.Term.{Term, One, Opt, Star, Plus}
 use Rattle.ix_model.specs.declared.grammar.Factor.{Factor, Lit, Set, Call, Insert, Group}
-use Rattle.ix_model.specs.Spelling.Characters.{is_one_of}
 use Rattle.ix_model.specs.Spelling.Spacing.{Takes, S, RS}
 use Rattle.ix_model.specs.Spelling.Words.{NameAt}
 
@@ -50,15 +50,15 @@ escaped q (x ∷ xs) = if x == q then q ∷ q ∷ escaped q xs else x ∷ escape
 
 -- neither a line feed nor a carriage return is among the characters
 abbrev pub IsOneLine : List ℕ → Type 0
-IsOneLine xs = AllByRecursion (λ x. IsTrue (not (is_one_of (10 ∷ 13 ∷ []) x))) xs
+IsOneLine xs = AllByRecursion (λ x. IsTrue (not (char_set_contains (10 ∷ 13 ∷ []) x))) xs
 
 -- a string between two quotes `"` or two quotes `'`
 abbrev pub StringAt : List ℕ → List ℕ → List ℕ → Type 0
-StringAt b r xs = (q : ℕ) × IsTrue (is_one_of (codes "\"'") q) × IsOneLine xs × (b ≡ q ∷ (escaped q xs ++ (q ∷ r)))
+StringAt b r xs = (q : ℕ) × IsTrue (char_set_contains (codes "\"'") q) × IsOneLine xs × (b ≡ q ∷ (escaped q xs ++ (q ∷ r)))
 
 -- whether c is a hexadecimal digit, of either case
 abbrev pub is_hex_digit : ℕ → Bool
-is_hex_digit = is_one_of (codes "0123456789abcdefABCDEF")
+is_hex_digit = char_set_contains (codes "0123456789abcdefABCDEF")
 
 -- one hexadecimal digit or more
 abbrev pub IsHex : List ℕ → Type 0

@@ -4,7 +4,8 @@
 -- Source: Invisible XML 1.0, the rule name of its grammar. Where a name ends is this project's own.
 use Rattle.std.specs.Prelude.{◌≡◌, ◌⊎◌, ℕ, Bool, true, false, not, ◌&&◌, ◌==◌, List, [], ◌∷◌, ◌++◌, codes, IsTrue}
 use Rattle.std.specs.List.{AllByRecursion}
-use Rattle.ix_model.specs.Spelling.Characters.{is_one_of, is_name_start, is_name_part}
+use Rattle.std.specs.Char.{char_set_contains}
+use Rattle.ix_model.specs.Spelling.Characters.{is_name_start, is_name_part}
 use Rattle.ix_model.specs.Spelling.Spacing.{Takes, AllSpacing}
 
 -- each of the characters stands within a name
@@ -26,7 +27,7 @@ ends_in_stop (c ∷ d ∷ cs) = ends_in_stop (d ∷ cs)
 -- the end, or a character that cannot follow a name
 abbrev pub gives_back : List ℕ → Bool
 gives_back [] = true
-gives_back (c ∷ r) = not (is_one_of (codes ",;|.)*+?:=") c)
+gives_back (c ∷ r) = not (char_set_contains (codes ",;|.)*+?:=") c)
 
 -- a name ends between `name` and r: with its run, which does not give back its last character, or before the full stop that the run gives back
 abbrev pub IsWord : List ℕ → List ℕ → Type 0

@@ -1,6 +1,7 @@
 -- The tokens of a grammar's text, as functions.
 use Rattle.std.specs.Prelude.{◌≡◌, ℕ, zero, suc, Bool, true, false, ◌&&◌, ◌==◌, if◌then◌else◌, List, [], ◌∷◌, codes, Option, Some, None, length, nat_lt, option_map}
-use Rattle.ix_model.specs.Spelling.Characters.{is_one_of, is_blank, is_name_start, is_name_part}
+use Rattle.std.specs.Char.{char_set_contains}
+use Rattle.ix_model.specs.Spelling.Characters.{is_blank, is_name_start, is_name_part}
 use Rattle.ix_model.specs.Spelling.Words.{gives_back, ends_run}
 use Rattle.ix_model.specs.Spelling.Spells.{is_hex_digit}
 
@@ -65,7 +66,7 @@ digits_of (x ∷ c) = if is_hex_digit x then push x (digits_of c) else ([], x �
 abbrev mutual
   pub quoted : ℕ → List ℕ → Option Read
   quoted q [] = None
-  quoted q (x ∷ c) = if x == q then closed q c else (if is_one_of (10 ∷ 13 ∷ []) x then None else option_map (push x) (quoted q c))
+  quoted q (x ∷ c) = if x == q then closed q c else (if char_set_contains (10 ∷ 13 ∷ []) x then None else option_map (push x) (quoted q c))
 
   -- behind a quote within it
   pub closed : ℕ → List ℕ → Option Read
@@ -112,7 +113,7 @@ abbrev pub next : List ℕ → Option (Lexeme × List ℕ)
 next [] = None
 next (x ∷ c) =
     if is_name_start x then (let v = word_of (x ∷ c) in Some (word v.0, v.1))
-    else (if is_one_of (codes "\"'") x then option_map (λ v. (quote v.0, v.1)) (quoted x c)
+    else (if char_set_contains (codes "\"'") x then option_map (λ v. (quote v.0, v.1)) (quoted x c)
     else (if x == 35 then hex_of (digits_of c)
     else (if x == 42 then (if begins 42 c then Some (stars, rest_of c) else Some (star, c))
     else (if x == 43 then (if begins 43 c then Some (pluses, rest_of c) else Some (plus, c))

@@ -1,7 +1,7 @@
 use Rattle.std.proofs.Common.{◌≡◌, arith}
-use Rattle.ix_model.specs.Matching.Sets.{IsOneOf}
+use Rattle.std.specs.List.{Contains}
 use Rattle.ix_sets.proofs.Gaining.{gains_nothing, gains_one, gains_more, gains_all, gains_as}
-use Rattle.ix_sets.proofs.Parts.{one_of_some, some_of_one}
+use Rattle.ix_sets.proofs.Parts.{contains_some, some_contained}
 use Rattle.ix_sets.proofs.members.push_text.Goals as goal
 
 pub loop-c-init : goal.loop-c-init
@@ -15,4 +15,4 @@ loop-c-preserved c =
 pub returns : goal.returns
 returns c =
     let text = c.args.text.now in
-    gains_as (λ c. IsOneOf c text) (gains_all (λ c x. c ≡ x) text c.loop-c.c-index c.loop-c-test.false c.loop-c.invariant) (λ c. one_of_some c text) (λ c. some_of_one c text)
+    gains_as (λ c. Contains text c) (gains_all (λ c x. c ≡ x) text c.loop-c.c-index c.loop-c-test.false c.loop-c.invariant) (λ c. contains_some c text) (λ c. some_contained c text)
