@@ -1,5 +1,5 @@
 -- The loops over characters.
-use Rattle.std.proofs.Common.{◌≡◌, refl, sym, ap, ap₂, ◌∙◌, subst, ℕ, zero, suc, List, [], ◌∷◌, length, ◌<◌, ◌≤◌, ◌+◌, ◌-◌, arith, take, drop, get_or, take_all, length-drop}
+use Rattle.std.proofs.Common.{◌≡◌, refl, sym, ap, ap₂, ◌∙◌, subst, ℕ, zero, suc, List, [], ◌∷◌, length, ◌<◌, ◌≤◌, ◌+◌, ◌-◌, arith, drop, get_or}
 use Rattle.std.proofs.Math.Dec.{eqb-suc-zero}
 use Rattle.std.proofs.lemmas.Bool.{eqb-true, eq-eqb}
 use Rattle.std.proofs.lemmas.List.{drop_more}
@@ -134,9 +134,3 @@ spaces_next text depth saved at x d s lt e h p q inv =
       small = omega (arith, p2, deeper_small depth (get_or text at 0), inv.small);
       within = omega (arith, q2, o);
     }
-
--- ---- parts of lists
-
--- what `drop` leaves is as long as that
-pub whole_rest : (xs : List ℕ) (i : ℕ) → take (length xs - i) (drop i xs) ≡ drop i xs
-whole_rest xs i = take_all (length xs - i) (drop i xs) (omega (arith, length-drop i xs))
