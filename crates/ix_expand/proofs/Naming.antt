@@ -6,7 +6,7 @@ use Rattle.ix_model.specs.declared.grammar.Mark.{Mark}
 use Rattle.ix_model.specs.declared.grammar.Mark.TheVariants.{Element}
 use Rattle.ix_model.specs.Documents.Bare.{effective}
 use Rattle.ix_model.specs.Grammars.Breach.{IsDefined}
-use Rattle.ix_model.specs.Grammars.Names.{names_of, IsFirstAt}
+use Rattle.ix_model.specs.Grammars.Names.{names_of, IsFirstName}
 use Rattle.ix_model.specs.Grammars.Written.{IsNamed}
 use Rattle.ix_model.proofs.FirstNames.{name_at, first_is_named}
 
@@ -17,10 +17,10 @@ module _ (g : Grammar) (name : List ℕ) (names : List (List ℕ)) (named : name
   found (Some r) none d = refl
 
   -- what is found has the name
-  pub found_is_named : (o : Option ℕ) (r : ℕ) → IfSome o (IsFirstAt names name) → o ≡ Some r → IsNamed g r name
+  pub found_is_named : (o : Option ℕ) (r : ℕ) → IfSome o (IsFirstName names name) → o ≡ Some r → IsNamed g r name
   found_is_named o r h e =
-      let first : IsFirstAt names name r = subst (λ (p : Option ℕ). IfSome p (IsFirstAt names name)) e h in
-      first_is_named g name r (subst (λ (ns : List (List ℕ)). IsFirstAt ns name r) named first)
+      let first : IsFirstName names name r = subst (λ (p : Option ℕ). IfSome p (IsFirstName names name)) e h in
+      first_is_named g name r (subst (λ (ns : List (List ℕ)). IsFirstName ns name r) named first)
 
 -- a rule without a mark is an element
 pub effective_is : (mark : Option Mark) → unwrap_or mark Element ≡ effective None mark

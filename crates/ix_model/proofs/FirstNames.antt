@@ -1,7 +1,7 @@
 -- The first of a list that passes a test, and names by their numbers.
-use Rattle.std.proofs.Common.{◌≡◌, ◌≢◌, refl, ap, sym, ◌∙◌, subst, ℕ, zero, suc, ◌<◌, ◌+◌, List, [], ◌∷◌, ◌++◌, length, Option, Some, None, arith, add-zero}
-use Rattle.std.specs.Prelude.{Bool, true, false, cond, slice_get, is_some, IfSome, IfNone}
-use Rattle.std.specs.List.{position_from}
+use Rattle.std.proofs.Common.{◌≡◌, ◌≢◌, refl, ap, sym, ◌∙◌, subst, ℕ, ◌≤◌, ◌+◌, List, [], ◌∷◌, ◌++◌, length, get_or, Option, Some, None, arith, add-zero}
+use Rattle.std.specs.Prelude.{Bool, true, false, cond, nat_lt, slice_get, is_some, IfSome, IfNone}
+use Rattle.std.specs.List.{position_from, position_or_len}
 use Rattle.std.specs.Option.{option_or, option_map}
 use Rattle.std.specs.Str.{bytes_eq}
 use Rattle.std.specs.Ordering.{nat_cmp}
@@ -10,12 +10,16 @@ use Rattle.std.specs.BTreeMap.{BTreeMap, UpdatesBy}
 use Rattle.std.specs.Borrow.{Bor}
 use Rattle.std.proofs.lemmas.Slice.Eq.{bytes_eq-Decides}
 use Rattle.std.proofs.lemmas.Map.Text.{btree_map_updates_str}
-use Rattle.std.proofs.lemmas.Option.{slice_get-map}
+use Rattle.std.proofs.lemmas.Option.{slice_get-map, slice_get_within, slice_get-get_or, get_or_from_slice_get}
+use Rattle.std.proofs.lemmas.Bool.Decides.{nat_tests}
+use Rattle.std.proofs.lemmas.Iterator.Adapters.{position_from-zero}
+use Rattle.std.proofs.lemmas.List.Sums.{fails_before_first}
+use Rattle.std.proofs.lemmas.List.Quantifiers.{position-Some}
 use Rattle.ix_model.specs.declared.grammar.Grammar.{Grammar}
 use Rattle.ix_model.specs.declared.grammar.Rule.{Rule}
 use Rattle.ix_model.specs.Grammars.Written.{IsNamed}
 use Rattle.ix_model.specs.Grammars.Breach.{IsDefined}
-use Rattle.ix_model.specs.Grammars.Names.{names_of, IsFirstAt, number_in, AreNumbersOf, AddsFirst}
+use Rattle.ix_model.specs.Grammars.Names.{names_of, IsFirstName, number_in, AreNumbersOf, AddsFirst}
 
 -- ---- the first that passes
 
@@ -30,43 +34,13 @@ module _ {X : Type 0} (p : X → Bool) where
         | false ↦ position_push (i + 1) xs y ∙ ap (λ n. option_or (position_from p (i + 1) xs) (cond (p y) (Some n) None)) later
       ]
 
-  abbrev FailsAll : List X → Type 0
-  FailsAll xs = (q : ℕ) (y : X) → slice_get xs q ≡ Some y → p y ≡ false
-
-  abbrev FailsBelow : ℕ → List X → Type 0
-  FailsBelow k xs = (q : ℕ) (y : X) → q < k → slice_get xs q ≡ Some y → p y ≡ false
-
-  abbrev IsFirst : ℕ → List X → ℕ → Type 0
-  IsFirst i xs r = (k : ℕ) × (r ≡ i + k) × ((x : X) × (slice_get xs k ≡ Some x) × (p x ≡ true)) × FailsBelow k xs
-
   -- where there is no first, none passes
-  pub none_passes : (i : ℕ) (xs : List X) → position_from p i xs ≡ None → FailsAll xs
-  none_passes i [] e = λ q y h. absurd (cc h)
-  none_passes i (x ∷ xs) e = by_head (p x) refl e (none_passes (i + 1) xs)
+  pub none_passes : (xs : List X) → position_from p 0 xs ≡ None → (q : ℕ) (y : X) → slice_get xs q ≡ Some y → p y ≡ false
+  none_passes xs e q y h = sym (ap p (get_or_from_slice_get xs q y y h)) ∙ fails_before_first p xs q y (omega (arith, slice_get_within xs q y h, at_end _ refl (position_from-zero p xs ∙ e)))
     where
-      by_head : (b : Bool) → p x ≡ b → cond b (Some i) (position_from p (i + 1) xs) ≡ None → (position_from p (i + 1) xs ≡ None → FailsAll xs) → FailsAll (x ∷ xs)
-      by_head true here e more = absurd (cc e)
-      by_head false here e more = at
-        where
-          at : FailsAll (x ∷ xs)
-          at zero y h = let d : x ≡ y = cc h in sym (ap p d) ∙ here
-          at (suc q) y h = more e q y h
-
-  -- the first passes, and none before it does
-  pub first_passes : (i : ℕ) (xs : List X) (r : ℕ) → position_from p i xs ≡ Some r → IsFirst i xs r
-  first_passes i [] r e = absurd (cc e)
-  first_passes i (x ∷ xs) r e = by_head (p x) refl e (first_passes (i + 1) xs r)
-    where
-      by_head : (b : Bool) → p x ≡ b → cond b (Some i) (position_from p (i + 1) xs) ≡ Some r → (position_from p (i + 1) xs ≡ Some r → IsFirst (i + 1) xs r) → IsFirst i (x ∷ xs) r
-      by_head true here e more = let d : i ≡ r = cc e in (0, sym d ∙ sym (add-zero i), (x, refl, here), λ q y h _. absurd (omega (arith, h)))
-      by_head false here e more = later (more e)
-        where
-          later : IsFirst (i + 1) xs r → IsFirst i (x ∷ xs) r
-          later (k, n, there, none) = (suc k, omega (arith, n), there, at)
-            where
-              at : FailsBelow (suc k) (x ∷ xs)
-              at zero y l h = let d : x ≡ y = cc h in sym (ap p d) ∙ here
-              at (suc q) y l h = none q y (omega (arith, l)) h
+      at_end : (b : Bool) → nat_lt (position_or_len p xs) (length xs) ≡ b → cond b (Some (position_or_len p xs)) None ≡ None → length xs ≤ position_or_len p xs
+      at_end true t n = absurd (cc n)
+      at_end false t n = grind (arith, nat_tests, t)
 
 -- ---- names by their numbers
 
@@ -78,19 +52,17 @@ not_passing : (name : List ℕ) → ¬ (bytes_eq name name ≡ false)
 not_passing name h = let e : true ≡ false = sym (same name) ∙ h in cc e
 
 -- what a look-up in the numbers of the names answers
-pub some_first : (numbers : BTreeMap (Bor (List ℕ)) ℕ) (names : List (List ℕ)) (name : List ℕ) (result : Option ℕ) → AreNumbersOf numbers names → result ≡ number_in numbers name → IfSome result (λ r. IsFirstAt names name r)
+pub some_first : (numbers : BTreeMap (Bor (List ℕ)) ℕ) (names : List (List ℕ)) (name : List ℕ) (result : Option ℕ) → AreNumbersOf numbers names → result ≡ number_in numbers name → IfSome result (λ r. IsFirstName names name r)
 some_first numbers names name None h e = tt
-some_first numbers names name (Some r) h e = at (first_passes (bytes_eq name) 0 names r (sym (e ∙ h name)))
-  where
-    at : IsFirst (bytes_eq name) 0 names r → IsFirstAt names name r
-    at (k, n, (x, there, passes), none) =
-        let d : name ≡ x = (bytes_eq-Decides name x).0 passes in
-        let m : k ≡ r = omega (arith, n) in
-        (subst (λ (i : ℕ). slice_get names i ≡ Some name) m (there ∙ ap Some (sym d)), λ q l h. not_passing name (none q name (omega (arith, l, m)) h))
+some_first numbers names name (Some r) h e =
+    let found = position-Some (bytes_eq name) names r name (position_from-zero (bytes_eq name) names ∙ sym (e ∙ h name)) in
+    let d : name ≡ get_or names r name = (bytes_eq-Decides name (get_or names r name)).0 found.1 in
+    (slice_get-get_or names r name found.0 ∙ ap Some (sym d), refl,
+    λ q other l there same. not_passing name (sym (ap (bytes_eq name) (get_or_from_slice_get names q other name there ∙ same)) ∙ found.2 q l))
 
 pub none_first : (numbers : BTreeMap (Bor (List ℕ)) ℕ) (names : List (List ℕ)) (name : List ℕ) (result : Option ℕ) → AreNumbersOf numbers names → result ≡ number_in numbers name → IfNone result ((r : ℕ) → slice_get names r ≢ Some name)
 none_first numbers names name (Some r) h e = tt
-none_first numbers names name None h e = λ r k. not_passing name (none_passes (bytes_eq name) 0 names (sym (e ∙ h name)) r name k)
+none_first numbers names name None h e = λ r k. not_passing name (none_passes (bytes_eq name) names (sym (e ∙ h name)) r name k)
 
 -- one more name at the end
 pub one_more_name : (old new : BTreeMap (Bor (List ℕ)) ℕ) (names : List (List ℕ)) (name : List ℕ) (number : ℕ) → number ≡ length names → AreNumbersOf old names → AddsFirst old new name number → AreNumbersOf new (names ++ name ∷ [])
@@ -148,7 +120,7 @@ module _ (g : Grammar) (name : List ℕ) where
   name_at r (rule, e, d) = slice_get-map (λ (rule : Rule). rule.name) g.rules r ∙ ap (option_map (λ (rule : Rule). rule.name)) e ∙ ap Some d
 
   -- the first rule with the name has it
-  pub first_is_named : (r : ℕ) → IsFirstAt (names_of g.rules) name r → IsNamed g r name
+  pub first_is_named : (r : ℕ) → IsFirstName (names_of g.rules) name r → IsNamed g r name
   first_is_named r h = named_at r h.0
 
   -- a name that is not among the names of the rules is not defined

@@ -3,6 +3,7 @@ pub mod Booleans
 pub mod Categories
 pub mod Decide
 pub mod FirstNames
+pub mod Firsts
 pub mod Folds
 pub mod Forming
 pub mod Forms

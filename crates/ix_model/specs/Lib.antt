@@ -3,6 +3,7 @@ pub mod Closure
 pub mod Derivations
 pub mod Documents
 pub mod Expansion
+pub mod Firsts
 pub mod Grammars
 pub mod Matching
 pub mod Spelling

@@ -1,5 +1,5 @@
 ghost use Rattle.std.specs.Prelude.{◌≡◌, ◌≢◌, ℕ, List, IfOk, IfSome, IfNone, OnOk, Some, slice_get};
-ghost use Rattle.ix_model.specs.Grammars.Names.{AddsFirst, AreNumbersOf, IsFirstAt, names_of};
+ghost use Rattle.ix_model.specs.Grammars.Names.{AddsFirst, AreNumbersOf, IsFirstName, names_of};
 
 use crate::grammar::Rule;
 use std::alloc::{AllocError, Global};
@@ -63,7 +63,7 @@ impl<'a> Names<'a> {
 
     /// The number of the first rule with the name, from 0; `None` where no rule has it.
     pub fn first(&self, name: &[char]) -> Option<usize>
-        ensures some { IfSome result (λ r. IsFirstAt self.now name.now r) }
+        ensures some { IfSome result (λ r. IsFirstName self.now name.now r) }
         ensures none { IfNone result ((r : ℕ) → slice_get self.now r ≢ Some name.now) }
     {
         self.numbers.get(name).copied()

@@ -1,7 +1,7 @@
 ghost use Rattle.std.specs.Prelude.{◌≡◌, List, [], ◌∷◌, codes};
 ghost use Rattle.ix_model.specs.declared.grammar.Term.{Term};
 ghost use Rattle.ix_model.specs.Grammars.Written.{IsNamed, IsOfRule};
-ghost use Rattle.ix_model.specs.Grammars.Names.{names_of, IsFirstAt, HasUniqueNames};
+ghost use Rattle.ix_model.specs.Grammars.Names.{names_of, IsFirstName, HasUniqueNames};
 ghost use Rattle.ix_model.specs.Answers.Places.{line_after, column_after, line_of, column_of};
 ghost use Rattle.ix_model.specs.Answers.Decoding.{without_mark};
 ghost use Rattle.ix_examples.specs.SmallGrammars.{quoted, only_a, sums, hidden, same_names};
@@ -26,9 +26,9 @@ pub fn unique_names()
 /// The names of rules stand in the order of the rules, and of two rules with one name the first counts.
 pub fn first_rule_of_a_name()
     ensures names { names_of same_names.rules ≡ codes "S" ∷ codes "S" ∷ [] }
-    ensures first { IsFirstAt (names_of same_names.rules) (codes "S") 0 }
-    ensures not_second { ¬ (IsFirstAt (names_of same_names.rules) (codes "S") 1) }
-    ensures other_name { ¬ (IsFirstAt (names_of same_names.rules) (codes "T") 0) }
+    ensures first { IsFirstName (names_of same_names.rules) (codes "S") 0 }
+    ensures not_second { ¬ (IsFirstName (names_of same_names.rules) (codes "S") 1) }
+    ensures other_name { ¬ (IsFirstName (names_of same_names.rules) (codes "T") 0) }
 {}
 
 /// A line feed ends a line, and no other character does.

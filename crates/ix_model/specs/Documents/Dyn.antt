@@ -5,6 +5,7 @@
 -- "Unique Att Spec"; Namespaces in XML 1.0, "Declaring Namespaces" (`xmlns` is no attribute of one's own). The codes and their order are
 -- this project's own.
 use Rattle.std.specs.Prelude.{◌≡◌, ℕ, ◌+◌, ◌<◌, ◌≤◌, List, [], ◌∷◌, ◌++◌, length, Some, slice_get, codes, IsTrue}
+use Rattle.ix_model.specs.Firsts.{IsFirstOf}
 use Rattle.ix_model.specs.Documents.Gives.{Given, attribute, element, run, Givens, nothing, followed}
 use Rattle.ix_model.specs.Documents.XmlNames.{is_xml_name, is_xml_char}
 
@@ -99,12 +100,7 @@ all_names gs = attribute_names gs ++ content_names gs
 abbrev pub all_characters : Givens → List ℕ
 all_characters gs = value_characters gs ++ content_characters gs
 
--- ---- the first of a list
-
--- x stands in the list at some place that P holds of, and P holds of no earlier one
-abbrev pub IsFirst : {X : Type 0} → (ℕ → X → Type 0) → List X → X → Type 0
-IsFirst {X} P xs x =
-    (n : ℕ) × (slice_get xs n ≡ Some x) × P n x × ((m : ℕ) (y : X) → m < n → slice_get xs m ≡ Some y → ¬ (P m y))
+-- ---- what is said of names
 
 -- the name at n stands at an earlier place too
 abbrev pub IsRepeat : List (List ℕ) → ℕ → List ℕ → Type 0
@@ -125,12 +121,12 @@ abbrev pub Holds : Givens → Refusal → Type 0
 Holds gs (attribute_at_top name) = slice_get (attribute_names gs) 0 ≡ Some name
 Holds gs (not_one_element elements characters) =
     (elements ≡ element_count gs) × (characters ≡ character_count gs) × ¬ ((elements ≡ 1) × (characters ≡ 0))
-Holds gs (bad_name name) = IsFirst (λ n other. ¬ (IsTrue (is_xml_name other))) (all_names gs) name
+Holds gs (bad_name name) = IsFirstOf (λ n other. ¬ (IsTrue (is_xml_name other))) (all_names gs) name
 Holds gs attribute_xmlns =
     (k : ℕ) × (names : List (List ℕ)) × (slice_get (attribute_names gs ∷ content_attributes gs) k ≡ Some names) × HasXmlns names
 Holds gs (same_attribute name) =
-    (names : List (List ℕ)) × IsFirst (λ n others. HasRepeat others) (content_attributes gs) names × IsFirst (IsRepeat names) names name
-Holds gs (bad_character c) = IsFirst (λ n other. ¬ (IsTrue (is_xml_char other))) (all_characters gs) c
+    (names : List (List ℕ)) × IsFirstOf (λ n others. HasRepeat others) (content_attributes gs) names × IsFirstOf (IsRepeat names) names name
+Holds gs (bad_character c) = IsFirstOf (λ n other. ¬ (IsTrue (is_xml_char other))) (all_characters gs) c
 
 -- the code holds with this item, and no lesser code holds
 abbrev pub Dyn : Givens → Refusal → Type 0

@@ -1,11 +1,12 @@
 -- What keeps a grammar from conforming. Each reason has a code, G02 to G07, and names an item: the first in the grammar's order.
 -- Of several codes that hold the least counts.
 -- Source: Invisible XML 1.0, "Conformance" and the errors that its sections name; the codes and their order are this project's own.
-use Rattle.std.specs.Prelude.{◌≡◌, ◌≢◌, ◌<◌, ◌≤◌, ℕ, List, ◌∷◌, ◌++◌, Some, IsTrue, length, codes}
+use Rattle.std.specs.Prelude.{◌≡◌, ◌≢◌, ◌<◌, ◌≤◌, ℕ, List, Some, IsTrue, length, codes}
 use Rattle.std.specs.Char.{IsScalar}
 use Rattle.std.specs.List.{AllByRecursion}
 use Rattle.ucd_category.specs.declared.GeneralCategory.{GeneralCategory}
 use Rattle.ix_model.specs.declared.grammar.Grammar.{Grammar}
+use Rattle.ix_model.specs.Firsts.{IsFirstOf}
 use Rattle.ix_model.specs.Grammars.Written.{IsNamed}
 use Rattle.ix_model.specs.Matching.Codes.{code_value}
 use Rattle.ix_model.specs.Matching.Classes.{code_of, is_code_in_class}
@@ -30,10 +31,6 @@ code_number (class name) = 5
 code_number (undefined name) = 6
 code_number (duplicate name) = 7
 
--- x is the first of the list that P does not hold of
-abbrev pub IsFirstNot : {X : Type 0} → (X → Type 0) → List X → X → Type 0
-IsFirstNot {X} P xs x = (before after : List X) × (xs ≡ before ++ x ∷ after) × AllByRecursion P before × ¬ (P x)
-
 -- the digits are the number of a character: at most 10FFFF, and not from D800 to DFFF
 abbrev pub IsCodePoint : List ℕ → Type 0
 IsCodePoint digits = IsScalar (code_value digits)
@@ -57,10 +54,10 @@ IsRepeated g r name = IsNamed g r name × (q : ℕ) × (q < r) × IsNamed g q na
 -- the code holds, and this is its item
 abbrev pub Breach : Grammar → Fault → Type 0
 Breach g (version text) = (g.version ≡ Some text) × (text ≢ codes "1.0")
-Breach g (code_point digits) = IsFirstNot IsCodePoint (codes_of g) digits
-Breach g (range low high) = IsFirstNot IsRising (ranges_of g) (low, high)
-Breach g (class name) = IsFirstNot IsKnownClass (classes_of g) name
-Breach g (undefined name) = IsFirstNot (IsDefined g) (calls_of g) name
+Breach g (code_point digits) = IsFirstOf (λ n other. ¬ (IsCodePoint other)) (codes_of g) digits
+Breach g (range low high) = IsFirstOf (λ n bounds. ¬ (IsRising bounds)) (ranges_of g) (low, high)
+Breach g (class name) = IsFirstOf (λ n other. ¬ (IsKnownClass other)) (classes_of g) name
+Breach g (undefined name) = IsFirstOf (λ n other. ¬ (IsDefined g other)) (calls_of g) name
 Breach g (duplicate name) = (r : ℕ) × IsRepeated g r name × ((p : ℕ) (other : List ℕ) → p < r → ¬ (IsRepeated g p other))
 
 -- the code holds with this item, and no lesser code holds

@@ -1,6 +1,6 @@
 -- The names of rules, and the first rule with a name.
 -- Source: Invisible XML 1.0, "Nonterminals": a nonterminal refers to the rule with its name.
-use Rattle.std.specs.Prelude.{◌≡◌, ◌≢◌, ◌<◌, ℕ, List, Option, Some, None, map, slice_get, if◌then◌else◌}
+use Rattle.std.specs.Prelude.{◌≡◌, ℕ, List, Option, Some, None, map, if◌then◌else◌}
 use Rattle.std.specs.List.{position_from}
 use Rattle.std.specs.Option.{option_or}
 use Rattle.std.specs.Str.{bytes_eq}
@@ -10,6 +10,7 @@ use Rattle.std.specs.BTreeMap.{BTreeMap, get_by}
 use Rattle.std.specs.Borrow.{Bor}
 use Rattle.ix_model.specs.declared.grammar.Grammar.{Grammar}
 use Rattle.ix_model.specs.declared.grammar.Rule.{Rule}
+use Rattle.ix_model.specs.Firsts.{IsFirstAt}
 use Rattle.ix_model.specs.Grammars.Written.{IsNamed}
 
 -- no two rules have one name
@@ -21,8 +22,8 @@ abbrev pub names_of : List Rule → List (List ℕ)
 names_of rules = map (λ (rule : Rule). rule.name) rules
 
 -- the first of the names that is this one has the number r
-abbrev pub IsFirstAt : List (List ℕ) → List ℕ → ℕ → Type 0
-IsFirstAt names name r = (slice_get names r ≡ Some name) × ((q : ℕ) → q < r → slice_get names q ≢ Some name)
+abbrev pub IsFirstName : List (List ℕ) → List ℕ → ℕ → Type 0
+IsFirstName names name r = IsFirstAt (λ q other. other ≡ name) names r name
 
 -- the number that a map has for a name
 abbrev pub number_in : BTreeMap (Bor (List ℕ)) ℕ → List ℕ → Option ℕ
