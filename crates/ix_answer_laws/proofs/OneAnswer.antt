@@ -14,7 +14,7 @@ use Rattle.ix_model.specs.Answers.Decoding.{decoded}
 use Rattle.ix_model.specs.Spelling.Spells.{Spells}
 use Rattle.ix_model.specs.Spelling.Depth.{depth}
 use Rattle.ix_model.specs.Grammars.Factors.{codes_of, ranges_of, classes_of, calls_of}
-use Rattle.ix_model.specs.Grammars.Breach.{Fault, version, code_point, range, class, undefined, duplicate, code_number, IsFirstNot, Breach, LeastBreach}
+use Rattle.ix_model.specs.Grammars.Breach.{Fault, version, code_point, range, class, undefined, duplicate, code_number, Breach, LeastBreach}
 use Rattle.ix_model.specs.Documents.Dyn.{Refusal, Dyn, HasNoRefusal}
 use Rattle.ix_model.specs.Derivations.Offset.{Offset}
 use Rattle.ix_model.specs.Answers.Places.{line_of, column_of}
@@ -24,6 +24,7 @@ use Rattle.ix_model.specs.Answers.Answer.{IsText, HoldsGrammar, HoldsConforming,
 use Rattle.ix_model.specs.Answers.Limits.{grammar_limit, text_limit, depth_limit}
 use Rattle.ix_answer_laws.proofs.Commands.{command_is_one}
 use Rattle.ix_spelling_laws.proofs.ReadingComplete.{spelled_once}
+use Rattle.ix_model.proofs.Firsts.{first_is_one as first_of_one}
 use Rattle.ix_answer_laws.proofs.Firsts.{in_order}
 use Rattle.ix_tree_laws.proofs.Once.{first_is_one}
 use Rattle.ix_answer_laws.proofs.Offsets.{offset_is_one}
@@ -31,21 +32,12 @@ use Rattle.ix_answer_laws.proofs.Refusals.{refusal_is_one}
 
 -- ---- one fault
 
-split_once : {X : Type 0} (P : X → Type 0) (before other after rest : List X) (x y : X) → before ++ x ∷ after ≡ other ++ y ∷ rest → AllByRecursion P before → AllByRecursion P other → ¬ (P x) → ¬ (P y) → x ≡ y
-split_once {X} P [] [] after rest x y e a b n m = cc e
-split_once {X} P [] (c ∷ cs) after rest x y e a b n m = let q : c ≡ x = cc e in absurd (n (subst P q b.0))
-split_once {X} P (c ∷ cs) [] after rest x y e a b n m = let q : c ≡ y = cc e in absurd (m (subst P q a.0))
-split_once {X} P (c ∷ cs) (d ∷ ds) after rest x y e a b n m = split_once P cs ds after rest x y (cc e) a.1 b.1 n m
-
-first_not_once : {X : Type 0} (P : X → Type 0) (xs : List X) (x y : X) → IsFirstNot P xs x → IsFirstNot P xs y → x ≡ y
-first_not_once {X} P xs x y (before, after, e, a, n) (other, rest, f, b, m) = split_once P before other after rest x y (sym e ∙ f) a b n m
-
 one_fault : (g : Grammar) (a b : Fault) → code_number a ≡ code_number b → Breach g a → Breach g b → a ≡ b
 one_fault g (version t) (version u) e h k = ap version (let x : Some t ≡ Some u = sym h.0 ∙ k.0 in cc x)
-one_fault g (code_point t) (code_point u) e h k = ap code_point (first_not_once _ (codes_of g) t u h k)
-one_fault g (range a b) (range c d) e h k = let x = first_not_once _ (ranges_of g) (a, b) (c, d) h k in cc (ap (λ (p : ℕ × ℕ). p.0) x, ap (λ (p : ℕ × ℕ). p.1) x)
-one_fault g (class t) (class u) e h k = ap class (first_not_once _ (classes_of g) t u h k)
-one_fault g (undefined t) (undefined u) e h k = ap undefined (first_not_once _ (calls_of g) t u h k)
+one_fault g (code_point t) (code_point u) e h k = ap code_point (first_of_one _ (codes_of g) t u h k)
+one_fault g (range a b) (range c d) e h k = let x = first_of_one _ (ranges_of g) (a, b) (c, d) h k in cc (ap (λ (p : ℕ × ℕ). p.0) x, ap (λ (p : ℕ × ℕ). p.1) x)
+one_fault g (class t) (class u) e h k = ap class (first_of_one _ (classes_of g) t u h k)
+one_fault g (undefined t) (undefined u) e h k = ap undefined (first_of_one _ (calls_of g) t u h k)
 one_fault g (duplicate t) (duplicate u) e (r, p, n) (q, s, m) = by_place (in_order r q)
   where
     by_place : (r < q) ⊎ ((r ≡ q) ⊎ (q < r)) → duplicate t ≡ duplicate u

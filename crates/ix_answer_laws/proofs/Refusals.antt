@@ -4,8 +4,10 @@ use mathlib.Core.Logic.{inl, inr}
 use Rattle.std.specs.Prelude.{IsTrue}
 use Rattle.ix_model.specs.Documents.Gives.{Givens}
 use Rattle.ix_model.specs.Documents.XmlNames.{is_xml_name, is_xml_char}
-use Rattle.ix_model.specs.Documents.Dyn.{Refusal, attribute_at_top, not_one_element, bad_name, attribute_xmlns, same_attribute, bad_character, refusal_number, attribute_names, element_count, character_count, content_attributes, all_names, all_characters, IsFirst, IsRepeat, HasRepeat, HasXmlns, Holds, Dyn, HasNoRefusal}
-use Rattle.ix_answer_laws.proofs.Firsts.{in_order, first_is_one, first_or_none, some_below, same_list, same_at}
+use Rattle.ix_model.specs.Documents.Dyn.{Refusal, attribute_at_top, not_one_element, bad_name, attribute_xmlns, same_attribute, bad_character, refusal_number, attribute_names, element_count, character_count, content_attributes, all_names, all_characters, IsRepeat, HasRepeat, HasXmlns, Holds, Dyn, HasNoRefusal}
+use Rattle.ix_model.specs.Firsts.{IsFirstOf}
+use Rattle.ix_model.proofs.Firsts.{first_is_one, first_or_none}
+use Rattle.ix_answer_laws.proofs.Firsts.{in_order, some_below, same_list, same_at}
 
 -- ---- at most one
 
@@ -17,7 +19,7 @@ one_item gs (bad_name x) (bad_name y) e h k = ap bad_name (first_is_one _ (all_n
 one_item gs attribute_xmlns attribute_xmlns e h k = refl
 one_item gs (same_attribute x) (same_attribute y) e (names, f, h) (others, f', k) =
     let s : names ≡ others = first_is_one (λ n ns. HasRepeat ns) (content_attributes gs) names others f f' in
-    ap same_attribute (first_is_one (IsRepeat names) names x y h (subst (λ ns. IsFirst (IsRepeat ns) ns y) (sym s) k))
+    ap same_attribute (first_is_one (IsRepeat names) names x y h (subst (λ ns. IsFirstOf (IsRepeat ns) ns y) (sym s) k))
 one_item gs (bad_character x) (bad_character y) e h k = ap bad_character (first_is_one _ (all_characters gs) x y h k)
 one_item gs code other e h k = absurd (omega (arith, e))
 
@@ -41,15 +43,15 @@ repeat_or_not names n name = by_place (some_below (λ m. slice_get names m ≡ S
 has_repeat_or_not : (names : List (List ℕ)) → HasRepeat names ⊎ ¬ (HasRepeat names)
 has_repeat_or_not names = by_first (first_or_none (IsRepeat names) (repeat_or_not names) names)
   where
-    by_first : ((x : List ℕ) × IsFirst (IsRepeat names) names x) ⊎ ((n : ℕ) (x : List ℕ) → slice_get names n ≡ Some x → ¬ (IsRepeat names n x)) → HasRepeat names ⊎ ¬ (HasRepeat names)
-    by_first (inl (x, (n, e, p, before))) = inl (n, x, e, p)
+    by_first : ((x : List ℕ) × IsFirstOf (IsRepeat names) names x) ⊎ ((n : ℕ) (x : List ℕ) → slice_get names n ≡ Some x → ¬ (IsRepeat names n x)) → HasRepeat names ⊎ ¬ (HasRepeat names)
+    by_first (inl (x, (n, (e, p, before)))) = inl (n, x, e, p)
     by_first (inr none) = inr (λ h. none h.0 h.1 h.2 h.3)
 
 has_xmlns_or_not : (names : List (List ℕ)) → HasXmlns names ⊎ ¬ (HasXmlns names)
 has_xmlns_or_not names = by_first (first_or_none (λ n x. x ≡ codes "xmlns") (λ n x. same_list x (codes "xmlns")) names)
   where
-    by_first : ((x : List ℕ) × IsFirst (λ n y. y ≡ codes "xmlns") names x) ⊎ ((n : ℕ) (x : List ℕ) → slice_get names n ≡ Some x → ¬ (x ≡ codes "xmlns")) → HasXmlns names ⊎ ¬ (HasXmlns names)
-    by_first (inl (x, (n, e, p, before))) = inl (n, e ∙ ap Some p)
+    by_first : ((x : List ℕ) × IsFirstOf (λ n y. y ≡ codes "xmlns") names x) ⊎ ((n : ℕ) (x : List ℕ) → slice_get names n ≡ Some x → ¬ (x ≡ codes "xmlns")) → HasXmlns names ⊎ ¬ (HasXmlns names)
+    by_first (inl (x, (n, (e, p, before)))) = inl (n, e ∙ ap Some p)
     by_first (inr none) = inr (λ h. none h.0 (codes "xmlns") h.1 refl)
 
 module _ (gs : Givens) where
@@ -101,14 +103,14 @@ module _ (gs : Givens) where
   bad_names = by_first (first_or_none (λ n x. ¬ (IsTrue (is_xml_name x))) (λ n x. fails (is_xml_name x)) (all_names gs))
     where
       none : ((n : ℕ) (x : List ℕ) → slice_get (all_names gs) n ≡ Some x → ¬ (¬ (IsTrue (is_xml_name x)))) → (code : Refusal) → refusal_number code ≡ 3 → ¬ (Holds gs code)
-      none no_bad (bad_name x) f (n, e, p, before) = no_bad n x e p
+      none no_bad (bad_name x) f (n, (e, p, before)) = no_bad n x e p
       none no_bad (attribute_at_top x) f h = omega (arith, f)
       none no_bad (not_one_element a b) f h = omega (arith, f)
       none no_bad attribute_xmlns f h = omega (arith, f)
       none no_bad (same_attribute x) f h = omega (arith, f)
       none no_bad (bad_character x) f h = omega (arith, f)
 
-      by_first : ((x : List ℕ) × IsFirst (λ n y. ¬ (IsTrue (is_xml_name y))) (all_names gs) x) ⊎ ((n : ℕ) (x : List ℕ) → slice_get (all_names gs) n ≡ Some x → ¬ (¬ (IsTrue (is_xml_name x)))) → Decided 3
+      by_first : ((x : List ℕ) × IsFirstOf (λ n y. ¬ (IsTrue (is_xml_name y))) (all_names gs) x) ⊎ ((n : ℕ) (x : List ℕ) → slice_get (all_names gs) n ≡ Some x → ¬ (¬ (IsTrue (is_xml_name x)))) → Decided 3
       by_first (inl (x, h)) = inl (bad_name x, refl, h)
       by_first (inr no_bad) = inr (none no_bad)
 
@@ -123,26 +125,26 @@ module _ (gs : Givens) where
       none no_xmlns (same_attribute x) f h = omega (arith, f)
       none no_xmlns (bad_character x) f h = omega (arith, f)
 
-      by_first : ((ns : List (List ℕ)) × IsFirst (λ n ms. HasXmlns ms) (attribute_names gs ∷ content_attributes gs) ns) ⊎ ((n : ℕ) (ns : List (List ℕ)) → slice_get (attribute_names gs ∷ content_attributes gs) n ≡ Some ns → ¬ (HasXmlns ns)) → Decided 4
-      by_first (inl (ns, (n, e, p, before))) = inl (attribute_xmlns, refl, (n, ns, e, p))
+      by_first : ((ns : List (List ℕ)) × IsFirstOf (λ n ms. HasXmlns ms) (attribute_names gs ∷ content_attributes gs) ns) ⊎ ((n : ℕ) (ns : List (List ℕ)) → slice_get (attribute_names gs ∷ content_attributes gs) n ≡ Some ns → ¬ (HasXmlns ns)) → Decided 4
+      by_first (inl (ns, (n, (e, p, before)))) = inl (attribute_xmlns, refl, (n, ns, e, p))
       by_first (inr no_xmlns) = inr (none no_xmlns)
 
   same_attributes : Decided 5
   same_attributes = by_first (first_or_none (λ n ns. HasRepeat ns) (λ n ns. has_repeat_or_not ns) (content_attributes gs))
     where
       none : ((n : ℕ) (ns : List (List ℕ)) → slice_get (content_attributes gs) n ≡ Some ns → ¬ (HasRepeat ns)) → (code : Refusal) → refusal_number code ≡ 5 → ¬ (Holds gs code)
-      none no_repeat (same_attribute x) f (names, (n, e, p, before), h) = no_repeat n names e p
+      none no_repeat (same_attribute x) f (names, (n, (e, p, before)), h) = no_repeat n names e p
       none no_repeat (attribute_at_top x) f h = omega (arith, f)
       none no_repeat (not_one_element a b) f h = omega (arith, f)
       none no_repeat (bad_name x) f h = omega (arith, f)
       none no_repeat attribute_xmlns f h = omega (arith, f)
       none no_repeat (bad_character x) f h = omega (arith, f)
 
-      of_names : (names : List (List ℕ)) → IsFirst (λ n ns. HasRepeat ns) (content_attributes gs) names → ((x : List ℕ) × IsFirst (IsRepeat names) names x) ⊎ ((n : ℕ) (x : List ℕ) → slice_get names n ≡ Some x → ¬ (IsRepeat names n x)) → Decided 5
+      of_names : (names : List (List ℕ)) → IsFirstOf (λ n ns. HasRepeat ns) (content_attributes gs) names → ((x : List ℕ) × IsFirstOf (IsRepeat names) names x) ⊎ ((n : ℕ) (x : List ℕ) → slice_get names n ≡ Some x → ¬ (IsRepeat names n x)) → Decided 5
       of_names names f (inl (x, h)) = inl (same_attribute x, refl, (names, f, h))
-      of_names names (n, e, p, before) (inr no_repeat) = absurd (no_repeat p.0 p.1 p.2 p.3)
+      of_names names (n, (e, p, before)) (inr no_repeat) = absurd (no_repeat p.0 p.1 p.2 p.3)
 
-      by_first : ((ns : List (List ℕ)) × IsFirst (λ n ms. HasRepeat ms) (content_attributes gs) ns) ⊎ ((n : ℕ) (ns : List (List ℕ)) → slice_get (content_attributes gs) n ≡ Some ns → ¬ (HasRepeat ns)) → Decided 5
+      by_first : ((ns : List (List ℕ)) × IsFirstOf (λ n ms. HasRepeat ms) (content_attributes gs) ns) ⊎ ((n : ℕ) (ns : List (List ℕ)) → slice_get (content_attributes gs) n ≡ Some ns → ¬ (HasRepeat ns)) → Decided 5
       by_first (inl (names, f)) = of_names names f (first_or_none (IsRepeat names) (repeat_or_not names) names)
       by_first (inr no_repeat) = inr (none no_repeat)
 
@@ -150,14 +152,14 @@ module _ (gs : Givens) where
   bad_characters = by_first (first_or_none (λ n x. ¬ (IsTrue (is_xml_char x))) (λ n x. fails (is_xml_char x)) (all_characters gs))
     where
       none : ((n : ℕ) (x : ℕ) → slice_get (all_characters gs) n ≡ Some x → ¬ (¬ (IsTrue (is_xml_char x)))) → (code : Refusal) → refusal_number code ≡ 6 → ¬ (Holds gs code)
-      none no_bad (bad_character x) f (n, e, p, before) = no_bad n x e p
+      none no_bad (bad_character x) f (n, (e, p, before)) = no_bad n x e p
       none no_bad (attribute_at_top x) f h = omega (arith, f)
       none no_bad (not_one_element a b) f h = omega (arith, f)
       none no_bad (bad_name x) f h = omega (arith, f)
       none no_bad attribute_xmlns f h = omega (arith, f)
       none no_bad (same_attribute x) f h = omega (arith, f)
 
-      by_first : ((x : ℕ) × IsFirst (λ n y. ¬ (IsTrue (is_xml_char y))) (all_characters gs) x) ⊎ ((n : ℕ) (x : ℕ) → slice_get (all_characters gs) n ≡ Some x → ¬ (¬ (IsTrue (is_xml_char x)))) → Decided 6
+      by_first : ((x : ℕ) × IsFirstOf (λ n y. ¬ (IsTrue (is_xml_char y))) (all_characters gs) x) ⊎ ((n : ℕ) (x : ℕ) → slice_get (all_characters gs) n ≡ Some x → ¬ (¬ (IsTrue (is_xml_char x)))) → Decided 6
       by_first (inl (x, h)) = inl (bad_character x, refl, h)
       by_first (inr no_bad) = inr (none no_bad)
 

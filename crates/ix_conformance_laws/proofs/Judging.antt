@@ -8,42 +8,35 @@ use Rattle.ucd_category.specs.declared.GeneralCategory.{GeneralCategory}
 use Rattle.ucd_category.specs.declared.GeneralCategory.TheVariants as category
 use Rattle.ix_model.specs.declared.grammar.Grammar.{Grammar}
 use Rattle.ix_model.specs.declared.grammar.Rule.{Rule}
+use Rattle.ix_model.specs.Firsts.{IsFirstOf}
+use Rattle.ix_model.proofs.Firsts.{at_front, behind, first_is_one}
 use Rattle.ix_model.specs.Grammars.Names.{HasUniqueNames}
 use Rattle.ix_model.specs.Grammars.Written.{IsNamed}
 use Rattle.ix_model.specs.Matching.Classes.{code_of, is_code_in_class}
 use Rattle.ix_model.specs.Grammars.Factors.{codes_of, ranges_of, classes_of, calls_of}
-use Rattle.ix_model.specs.Grammars.Breach.{Fault, version, code_point, range, class, undefined, duplicate, code_number, IsFirstNot, IsCodePoint, IsRising, IsKnownClass, IsDefined, IsRepeated, Breach, LeastBreach}
+use Rattle.ix_model.specs.Grammars.Breach.{Fault, version, code_point, range, class, undefined, duplicate, code_number, IsCodePoint, IsRising, IsKnownClass, IsDefined, IsRepeated, Breach, LeastBreach}
 use Rattle.ix_conformance_laws.specs.Laws.{IsFaultless}
 
 -- ---- the first of a list that is not as it should be
 
 module _ {X : Type 0} (P : X → Type 0) where
-  find_first : ((x : X) → P x ⊎ ¬ (P x)) → (xs : List X) → AllByRecursion P xs ⊎ ((x : X) × IsFirstNot P xs x)
-  find_first decide [] = inl tt
-  find_first decide (x ∷ xs) = go (decide x) (find_first decide xs)
+  all_or_first : ((x : X) → P x ⊎ ¬ (P x)) → (xs : List X) → AllByRecursion P xs ⊎ ((x : X) × IsFirstOf (λ n y. ¬ (P y)) xs x)
+  all_or_first decide [] = inl tt
+  all_or_first decide (x ∷ xs) = by_head (decide x) (all_or_first decide xs)
     where
-      go : P x ⊎ ¬ (P x) → AllByRecursion P xs ⊎ ((y : X) × IsFirstNot P xs y) → AllByRecursion P (x ∷ xs) ⊎ ((y : X) × IsFirstNot P (x ∷ xs) y)
-      go (inr n) _ = inr (x, ([], xs, refl, tt, n))
-      go (inl p) (inl h) = inl (p, h)
-      go (inl p) (inr (y, (before, after, e, h, n))) = inr (y, (x ∷ before, after, ap (λ zs. x ∷ zs) e, (p, h), n))
-
-  within : (before after : List X) (x : X) → AllByRecursion P (before ++ x ∷ after) → P x
-  within [] after x h = h.0
-  within (y ∷ before) after x h = within before after x h.1
+      by_head : P x ⊎ ¬ (P x) → AllByRecursion P xs ⊎ ((y : X) × IsFirstOf (λ n y. ¬ (P y)) xs y) → AllByRecursion P (x ∷ xs) ⊎ ((y : X) × IsFirstOf (λ n y. ¬ (P y)) (x ∷ xs) y)
+      by_head (inr n) _ = inr (x, at_front (λ n y. ¬ (P y)) x xs n)
+      by_head (inl p) (inl h) = inl (p, h)
+      by_head (inl p) (inr (y, h)) = inr (y, behind (λ n y. ¬ (P y)) x xs y (λ n. n p) h)
 
   -- where all are as they should be, none is the first that is not
-  pub no_first : (xs : List X) (x : X) → AllByRecursion P xs → ¬ (IsFirstNot P xs x)
-  no_first xs x h (before, after, e, b, n) = n (within before after x (subst (AllByRecursion P) e h))
-
-  same_split : (b a c d : List X) (x y : X) → b ++ x ∷ a ≡ c ++ y ∷ d → AllByRecursion P b → AllByRecursion P c → ¬ (P x) → ¬ (P y) → x ≡ y
-  same_split [] a [] d x y e hb hc n m = cc e
-  same_split [] a (z ∷ c) d x y e hb hc n m = let p : z ≡ x = cc e in absurd (n (subst P p hc.0))
-  same_split (z ∷ b) a [] d x y e hb hc n m = let p : z ≡ y = cc e in absurd (m (subst P p hb.0))
-  same_split (z ∷ b) a (w ∷ c) d x y e hb hc n m = let p : b ++ x ∷ a ≡ c ++ y ∷ d = cc e in same_split b a c d x y p hb.1 hc.1 n m
-
-  -- only one is the first
-  pub first_once : (xs : List X) (x y : X) → IsFirstNot P xs x → IsFirstNot P xs y → x ≡ y
-  first_once xs x y (b, a, e, hb, n) (c, d, f, hc, m) = same_split b a c d x y (sym e ∙ f) hb hc n m
+  pub no_first : (xs : List X) (x : X) → AllByRecursion P xs → ¬ (IsFirstOf (λ n y. ¬ (P y)) xs x)
+  no_first xs x all (n, (e, not_here, before)) = not_here (holds_at xs n x all e)
+    where
+      holds_at : (ys : List X) (m : ℕ) (y : X) → AllByRecursion P ys → slice_get ys m ≡ Some y → P y
+      holds_at [] m y all e = absurd (cc e)
+      holds_at (z ∷ ys) zero y all e = subst P (cc e) all.0
+      holds_at (z ∷ ys) (suc m) y all e = holds_at ys m y all.1 e
 
 -- ---- the least number
 
@@ -312,21 +305,21 @@ judged g = by_version (find_version g)
         least_of_all : (other : Fault) → 2 ≤ code_number other
         least_of_all (version _) = omega arith
         least_of_all _ = omega arith
-    by_version (inl v) = by_code (find_first IsCodePoint is_code_point (codes_of g))
+    by_version (inl v) = by_code (all_or_first IsCodePoint is_code_point (codes_of g))
       where
-        by_code : AllByRecursion IsCodePoint (codes_of g) ⊎ ((digits : List ℕ) × IsFirstNot IsCodePoint (codes_of g) digits) → ((fault : Fault) × LeastBreach g fault) ⊎ IsFaultless g
+        by_code : AllByRecursion IsCodePoint (codes_of g) ⊎ ((digits : List ℕ) × IsFirstOf (λ n y. ¬ (IsCodePoint y)) (codes_of g) digits) → ((fault : Fault) × LeastBreach g fault) ⊎ IsFaultless g
         by_code (inr (digits, b)) = inl (code_point digits, (b, above_version g v))
-        by_code (inl p) = by_range (find_first IsRising (λ x. at_most x.0 x.1) (ranges_of g))
+        by_code (inl p) = by_range (all_or_first IsRising (λ x. at_most x.0 x.1) (ranges_of g))
           where
-            by_range : AllByRecursion IsRising (ranges_of g) ⊎ ((bounds : ℕ × ℕ) × IsFirstNot IsRising (ranges_of g) bounds) → ((fault : Fault) × LeastBreach g fault) ⊎ IsFaultless g
+            by_range : AllByRecursion IsRising (ranges_of g) ⊎ ((bounds : ℕ × ℕ) × IsFirstOf (λ n y. ¬ (IsRising y)) (ranges_of g) bounds) → ((fault : Fault) × LeastBreach g fault) ⊎ IsFaultless g
             by_range (inr (bounds, b)) = inl (range bounds.0 bounds.1, (b, above_codes g v p))
-            by_range (inl q) = by_class (find_first IsKnownClass is_known (classes_of g))
+            by_range (inl q) = by_class (all_or_first IsKnownClass is_known (classes_of g))
               where
-                by_class : AllByRecursion IsKnownClass (classes_of g) ⊎ ((name : List ℕ) × IsFirstNot IsKnownClass (classes_of g) name) → ((fault : Fault) × LeastBreach g fault) ⊎ IsFaultless g
+                by_class : AllByRecursion IsKnownClass (classes_of g) ⊎ ((name : List ℕ) × IsFirstOf (λ n y. ¬ (IsKnownClass y)) (classes_of g) name) → ((fault : Fault) × LeastBreach g fault) ⊎ IsFaultless g
                 by_class (inr (name, b)) = inl (class name, (b, above_ranges g v p q))
-                by_class (inl k) = by_call (find_first (IsDefined g) (is_defined g) (calls_of g))
+                by_class (inl k) = by_call (all_or_first (IsDefined g) (is_defined g) (calls_of g))
                   where
-                    by_call : AllByRecursion (IsDefined g) (calls_of g) ⊎ ((name : List ℕ) × IsFirstNot (IsDefined g) (calls_of g) name) → ((fault : Fault) × LeastBreach g fault) ⊎ IsFaultless g
+                    by_call : AllByRecursion (IsDefined g) (calls_of g) ⊎ ((name : List ℕ) × IsFirstOf (λ n y. ¬ (IsDefined g y)) (calls_of g) name) → ((fault : Fault) × LeastBreach g fault) ⊎ IsFaultless g
                     by_call (inr (name, b)) = inl (undefined name, (b, above_classes g v p q k))
                     by_call (inl d) = by_name (find_repeated g)
                       where
@@ -344,10 +337,10 @@ least_number P r q h k a b (inr (inr l)) = absurd (a q l k)
 -- a code has one item
 pub item_once : (g : Grammar) (one two : Fault) → Breach g one → Breach g two → code_number one ≡ code_number two → one ≡ two
 item_once g (version a) (version b) (e, n) (f, m) k = let p : Some a ≡ Some b = sym e ∙ f in let q : a ≡ b = cc p in ap version q
-item_once g (code_point a) (code_point b) h m k = ap code_point (first_once IsCodePoint (codes_of g) a b h m)
-item_once g (range a b) (range c d) h m k = ap (λ (x : ℕ × ℕ). range x.0 x.1) (first_once IsRising (ranges_of g) (a, b) (c, d) h m)
-item_once g (class a) (class b) h m k = ap class (first_once IsKnownClass (classes_of g) a b h m)
-item_once g (undefined a) (undefined b) h m k = ap undefined (first_once (IsDefined g) (calls_of g) a b h m)
+item_once g (code_point a) (code_point b) h m k = ap code_point (first_is_one (λ n y. ¬ (IsCodePoint y)) (codes_of g) a b h m)
+item_once g (range a b) (range c d) h m k = ap (λ (x : ℕ × ℕ). range x.0 x.1) (first_is_one (λ n y. ¬ (IsRising y)) (ranges_of g) (a, b) (c, d) h m)
+item_once g (class a) (class b) h m k = ap class (first_is_one (λ n y. ¬ (IsKnownClass y)) (classes_of g) a b h m)
+item_once g (undefined a) (undefined b) h m k = ap undefined (first_is_one (λ n y. ¬ (IsDefined g y)) (calls_of g) a b h m)
 item_once g (duplicate a) (duplicate b) (r, h, none) (q, m, no_other) k =
     let e : r ≡ q = least_number (Repeats g) r q (a, h) (b, m) (λ p l x. none p x.0 l x.1) (λ p l x. no_other p x.0 l x.1) (one_of_three r q) in
     ap duplicate (same_name g q a b (subst (λ (z : ℕ). IsNamed g z a) e h.0) m.0)

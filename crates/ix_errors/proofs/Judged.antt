@@ -3,10 +3,11 @@ use Rattle.std.proofs.Common.{◌≡◌, refl, ap, sym, ◌∙◌, subst, ℕ, �
 use Rattle.std.specs.Prelude.{IfSome, Result, Ok, Err, OnOk, IfOk, IfErr}
 use Rattle.std.specs.List.{AllByRecursion, flat_map}
 use Rattle.ix_model.specs.declared.grammar.Grammar.{Grammar}
+use Rattle.ix_model.specs.Firsts.{IsFirstOf}
 use Rattle.ix_model.specs.Grammars.Names.{HasUniqueNames, names_of}
 use Rattle.ix_model.specs.Grammars.Factors.{codes_of, ranges_of, classes_of, calls_of}
 use Rattle.ix_model.specs.Grammars.Breach as of
-use Rattle.ix_model.specs.Grammars.Breach.{Fault, code_point, class, undefined, duplicate, code_number, IsFirstNot, IsCodePoint, IsRising, IsKnownClass, IsDefined, IsRepeated, LeastBreach}
+use Rattle.ix_model.specs.Grammars.Breach.{Fault, code_point, class, undefined, duplicate, code_number, IsCodePoint, IsRising, IsKnownClass, IsDefined, IsRepeated, LeastBreach}
 use Rattle.ix_conformance_laws.proofs.Judging.{above_version, above_codes, above_ranges, above_classes, above_calls, unrefused, unique_where_none_repeats}
 use Rattle.ix_model.proofs.FirstNames.{named_at, name_at}
 use Rattle.ix_errors.specs.declared.breach.Breach.{Breach}
@@ -33,10 +34,10 @@ from_two g (of.undefined name) b = omega arith
 from_two g (of.duplicate name) b = omega arith
 
 -- the first of a list, by the code of the list
-named : {X : Type 0} (g : Grammar) (P : X → Type 0) (xs : List X) (fault : X → Fault) (n : ℕ) (error : Breach) → ((x : X) → IsFirstNot P xs x → of.Breach g (fault x)) → ((x : X) → code_number (fault x) ≡ n) → NamesFirst P xs fault error → IsOfCode n g error
+named : {X : Type 0} (g : Grammar) (P : X → Type 0) (xs : List X) (fault : X → Fault) (n : ℕ) (error : Breach) → ((x : X) → IsFirstOf (λ n y. ¬ (P y)) xs x → of.Breach g (fault x)) → ((x : X) → code_number (fault x) ≡ n) → NamesFirst P xs fault error → IsOfCode n g error
 named {X} g P xs fault n error holds number h = go (fault_of error) h
   where
-    go : (o : Option Fault) → IfSome o (λ found. (x : X) × (found ≡ fault x) × IsFirstNot P xs x) → IfSome o (λ found. of.Breach g found × (code_number found ≡ n))
+    go : (o : Option Fault) → IfSome o (λ found. (x : X) × (found ≡ fault x) × IsFirstOf (λ n y. ¬ (P y)) xs x) → IfSome o (λ found. of.Breach g found × (code_number found ≡ n))
     go None k = tt
     go (Some found) (x, e, first) = (subst (of.Breach g) (sym e) (holds x first), ap code_number e ∙ number x)
 
@@ -59,8 +60,8 @@ all_along : {X : Type 0} (P Q : X → Type 0) → ((x : X) → P x → Q x) → 
 all_along P Q f [] h = tt
 all_along P Q f (x ∷ xs) h = (f x h.0, all_along P Q f xs h.1)
 
-first_along : {X : Type 0} (P Q : X → Type 0) → ((x : X) → P x → Q x) → ((x : X) → Q x → P x) → (xs : List X) (x : X) → IsFirstNot P xs x → IsFirstNot Q xs x
-first_along P Q f back xs x (before, after, e, h, n) = (before, after, e, all_along P Q f before h, λ q. n (back x q))
+first_along : {X : Type 0} (P Q : X → Type 0) → ((x : X) → P x → Q x) → ((x : X) → Q x → P x) → (xs : List X) (x : X) → IsFirstOf (λ n y. ¬ (P y)) xs x → IsFirstOf (λ n y. ¬ (Q y)) xs x
+first_along P Q f back xs x (n, (e, not_here, before)) = (n, (e, λ q. not_here (back x q), λ m y l there h. before m y l there (λ p. h (f y p))))
 
 -- ---- the tests in their order
 

@@ -8,19 +8,17 @@ use Rattle.std.specs.Option.{option_map}
 use Rattle.std.proofs.lemmas.Option.{slice_get_within, slice_get-map, slice_get-get_or}
 use Rattle.ix_model.specs.declared.grammar.Rule.{Rule}
 use Rattle.ix_model.specs.Grammars.Names.{names_of}
-use Rattle.ix_model.specs.Grammars.Breach.{IsFirstNot}
+use Rattle.ix_model.specs.Firsts.{IsFirstOf}
+use Rattle.ix_model.proofs.Firsts.{at_front, behind as behind_front, first_then}
 use Rattle.ix_model.proofs.AllOf.{all_append, all_left, all_right}
 use Rattle.ix_errors.specs.Firsts.{IsSearchFor, IsRepeatedAt, NoneRepeatedBelow, IsSearchForRepeated}
 
 module _ {X : Type 0} (P : X → Type 0) where
-  -- the first stays the first where more comes behind
-  pub first_then : (xs ys : List X) (x : X) → IsFirstNot P xs x → IsFirstNot P (xs ++ ys) x
-  first_then xs ys x (before, after, e, h, n) = (before, after ++ ys, ap (λ zs. zs ++ ys) e ∙ append_assoc before (x ∷ after) ys, h, n)
-
   -- a search goes on where all before are as they should be
   pub search_on : (xs ys : List X) (o : Option X) → AllByRecursion P xs → IsSearchFor P ys o → IsSearchFor P (xs ++ ys) o
   search_on xs ys None h k = all_append P xs ys h k
-  search_on xs ys (Some x) h (before, after, e, k, n) = (xs ++ before, after, ap (λ zs. xs ++ zs) e ∙ sym (append_assoc xs before (x ∷ after)), all_append P xs before h k, n)
+  search_on [] ys (Some x) h k = k
+  search_on (z ∷ xs) ys (Some x) h k = behind_front (λ n y. ¬ (P y)) z (xs ++ ys) x (λ n. n h.0) (search_on xs ys (Some x) h.1 k)
 
   module _ {Y : Type 0} (f : Y → List X) where
     -- what holds of all that a list gives holds of what one of it gives
@@ -51,15 +49,15 @@ module _ {X : Type 0} (P : X → Type 0) where
     found_at ys i y x l e h k =
         let here : IsSearchFor P (flat_map f (take i ys) ++ f (get_or ys i y)) (Some x) = search_on (flat_map f (take i ys)) (f (get_or ys i y)) (Some x) h (subst (λ (z : Y). IsSearchFor P (f z) (Some x)) e k) in
         let rest = behind ys (i + 1) in
-        subst (λ zs. IsFirstNot P zs x) (sym rest.1) (first_then (flat_map f (take (i + 1) ys)) rest.0 x (subst (λ zs. IsFirstNot P zs x) (sym (more ys i y l)) here))
+        subst (λ zs. IsFirstOf (λ n z. ¬ (P z)) zs x) (sym rest.1) (first_then (λ n z. ¬ (P z)) (flat_map f (take (i + 1) ys)) rest.0 x (subst (λ zs. IsFirstOf (λ n z. ¬ (P z)) zs x) (sym (more ys i y l)) here))
 
     -- all are as they should be
     pub none_found : (ys : List Y) (i : ℕ) → length ys ≤ i → AllByRecursion P (flat_map f (take i ys)) → IsSearchFor P (flat_map f ys) None
     none_found ys i l h = subst (λ zs. AllByRecursion P (flat_map f zs)) (take_all i ys l) h
 
   -- the only one is not as it should be
-  pub alone : (xs : List X) (x : X) → xs ≡ x ∷ [] → ¬ (P x) → IsFirstNot P xs x
-  alone xs x e n = ([], [], e, tt, n)
+  pub alone : (xs : List X) (x : X) → xs ≡ x ∷ [] → ¬ (P x) → IsFirstOf (λ n y. ¬ (P y)) xs x
+  alone xs x e n = subst (λ ys. IsFirstOf (λ n y. ¬ (P y)) ys x) (sym e) (at_front (λ n y. ¬ (P y)) x [] n)
 
 -- ---- repeated names
 

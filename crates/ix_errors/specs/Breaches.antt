@@ -2,8 +2,9 @@
 -- Source: this project's own; the codes are those of ix_model.
 use Rattle.std.specs.Prelude.{◌≡◌, ℕ, List, Option, Some, None, IfSome}
 use Rattle.ix_model.specs.declared.grammar.Grammar.{Grammar}
+use Rattle.ix_model.specs.Firsts.{IsFirstOf}
 use Rattle.ix_model.specs.Grammars.Breach as of
-use Rattle.ix_model.specs.Grammars.Breach.{Fault, code_number, IsFirstNot, LeastBreach}
+use Rattle.ix_model.specs.Grammars.Breach.{Fault, code_number, LeastBreach}
 use Rattle.ix_errors.specs.Firsts.{IsSearchForRepeated}
 use Rattle.ix_errors.specs.declared.breach.Breach.{Breach}
 use Rattle.ix_errors.specs.declared.breach.Breach.TheVariants.{Version, CodePoint, Range, Class, Undefined, Duplicate, Memory}
@@ -24,7 +25,7 @@ IsLeast g error = IfSome (fault_of error) (LeastBreach g)
 
 -- the error is want of memory, or names the first of the list that P does not hold of, by the code that `fault` makes of it
 abbrev pub NamesFirst : {X : Type 0} → (X → Type 0) → List X → (X → Fault) → Breach → Type 0
-NamesFirst {X} P xs fault error = IfSome (fault_of error) (λ named. (x : X) × (named ≡ fault x) × IsFirstNot P xs x)
+NamesFirst {X} P xs fault error = IfSome (fault_of error) (λ named. (x : X) × (named ≡ fault x) × IsFirstOf (λ n y. ¬ (P y)) xs x)
 
 -- the error is want of memory, or names this code, which holds of the grammar, with its item
 abbrev pub IsOfCode : ℕ → Grammar → Breach → Type 0

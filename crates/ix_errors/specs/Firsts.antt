@@ -2,12 +2,12 @@
 -- Source: this project's own.
 use Rattle.std.specs.Prelude.{◌≡◌, ◌<◌, ℕ, List, Option, Some, None, slice_get}
 use Rattle.std.specs.List.{AllByRecursion}
-use Rattle.ix_model.specs.Grammars.Breach.{IsFirstNot}
+use Rattle.ix_model.specs.Firsts.{IsFirstOf}
 
 -- some x is the first of the list that P does not hold of, and none comes where P holds of all
 abbrev pub IsSearchFor : {X : Type 0} → (X → Type 0) → List X → Option X → Type 0
 IsSearchFor P xs None = AllByRecursion P xs
-IsSearchFor P xs (Some x) = IsFirstNot P xs x
+IsSearchFor P xs (Some x) = IsFirstOf (λ n y. ¬ (P y)) xs x
 
 -- the name stands among the names
 abbrev pub IsAmong : List (List ℕ) → List ℕ → Type 0

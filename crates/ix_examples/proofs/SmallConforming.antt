@@ -1,10 +1,11 @@
 -- Small grammars that conform, and how deep they nest.
-use Rattle.std.proofs.Common.{◌≡◌, ◌≢◌, refl, ap, ℕ, ◌≤◌, List, [], ◌∷◌, None, Some, codes, arith}
+use Rattle.std.proofs.Common.{◌≡◌, ◌≢◌, refl, ap, sym, ◌∙◌, slice_get, ℕ, ◌≤◌, List, [], ◌∷◌, None, Some, codes, arith}
 use Rattle.ix_model.specs.declared.grammar.Grammar.{Grammar}
+use Rattle.ix_model.specs.Firsts.{IsFirstOf}
 use Rattle.ix_model.specs.Grammars.Written.{IsNamed}
 use Rattle.ix_model.specs.Spelling.Depth.{depth}
 use Rattle.ix_model.specs.Grammars.Factors.{codes_of, ranges_of, classes_of, calls_of}
-use Rattle.ix_model.specs.Grammars.Breach.{Fault, version, code_point, range, class, undefined, duplicate, IsFirstNot, Breach, LeastBreach, code_number}
+use Rattle.ix_model.specs.Grammars.Breach.{Fault, version, code_point, range, class, undefined, duplicate, Breach, LeastBreach, code_number}
 use Rattle.ix_examples.specs.SmallGrammars.{quoted, only_a, two_ways}
 use Rattle.ix_examples.specs.SmallSpellings.{of_version}
 use Rattle.ix_model.proofs.Folds.{the_folds}
@@ -23,9 +24,8 @@ version_first g number e n = ((e, n), at_least)
     at_least (undefined c) h = omega arith
     at_least (duplicate c) h = omega arith
 
-nothing_first : {X : Type 0} (P : X → Type 0) (xs : List X) (x : X) → xs ≡ [] → ¬ (IsFirstNot P xs x)
-nothing_first {X} P xs x e ([], after, f, p, h) = cc (e, f)
-nothing_first {X} P xs x e (b ∷ bs, after, f, p, h) = cc (e, f)
+nothing_first : {X : Type 0} (P : ℕ → X → Type 0) (xs : List X) (x : X) → xs ≡ [] → ¬ (IsFirstOf P xs x)
+nothing_first {X} P xs x e (n, (f, p, before)) = cc (ap (λ ys. slice_get ys n) (sym e) ∙ f)
 
 -- a grammar of one rule without numbers, ranges, classes and calls conforms
 plain_conforms : (g : Grammar) → g.version ≡ None → codes_of g ≡ [] → ranges_of g ≡ [] → classes_of g ≡ [] → calls_of g ≡ [] → ((r : ℕ) (name : List ℕ) → IsNamed g r name → r ≡ 0) → (fault : Fault) → ¬ (Breach g fault)

@@ -15,11 +15,15 @@ at_append (x ∷ xs) ys (suc n) l = at_append xs ys n (omega (arith, l))
 module _ {X : Type 0} (P : ℕ → X → Type 0) where
   -- what stands in front is first where P holds of it
   pub at_front : (x : X) (xs : List X) → P 0 x → IsFirstOf P (x ∷ xs) x
-  at_front x xs p = (0, refl, p, λ m y l. absurd (omega (arith, l)))
+  at_front x xs p = (0, (refl, p, λ m y l. absurd (omega (arith, l))))
+
+  -- the same of a list that is said to begin with it
+  pub in_front : (xs rest : List X) (x : X) → xs ≡ x ∷ rest → P 0 x → IsFirstOf P xs x
+  in_front xs rest x e p = subst (λ ys. IsFirstOf P ys x) (sym e) (at_front x rest p)
 
   -- else the first is that of the rest
   pub behind : (x : X) (xs : List X) (y : X) → ¬ (P 0 x) → IsFirstOf (λ n z. P (suc n) z) xs y → IsFirstOf P (x ∷ xs) y
-  behind x xs y not_here (n, e, p, before) = (suc n, e, p, earlier)
+  behind x xs y not_here (n, (e, p, before)) = (suc n, (e, p, earlier))
     where
       earlier : (m : ℕ) (z : X) → m < suc n → slice_get (x ∷ xs) m ≡ Some z → ¬ (P m z)
       earlier zero z l f q = not_here (subst (λ w. P 0 w) (sym {b = z} (cc f)) q)
@@ -27,13 +31,13 @@ module _ {X : Type 0} (P : ℕ → X → Type 0) where
 
   -- the first stays the first where more comes behind
   pub first_then : (xs ys : List X) (x : X) → IsFirstOf P xs x → IsFirstOf P (xs ++ ys) x
-  first_then xs ys x (n, e, p, before) =
+  first_then xs ys x (n, (e, p, before)) =
       let l = slice_get_within xs n x e in
-      (n, at_append xs ys n l ∙ e, p, λ m y k f. before m y k (sym (at_append xs ys m (omega (arith, k, l))) ∙ f))
+      (n, (at_append xs ys n l ∙ e, p, λ m y k f. before m y k (sym (at_append xs ys m (omega (arith, k, l))) ∙ f)))
 
   -- only one is the first
   pub first_is_one : (xs : List X) (x y : X) → IsFirstOf P xs x → IsFirstOf P xs y → x ≡ y
-  first_is_one xs x y (n, e, p, before) (m, f, q, earlier) = by_place (one_of_three n m)
+  first_is_one xs x y (n, (e, p, before)) (m, (f, q, earlier)) = by_place (one_of_three n m)
     where
       by_place : (n < m) ⊎ ((n ≡ m) ⊎ (m < n)) → x ≡ y
       by_place (inl l) = absurd (earlier n x l e p)
