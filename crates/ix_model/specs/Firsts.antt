@@ -1,4 +1,4 @@
--- The first of a list that something holds of.
+-- The first of a list that something holds of, which may depend on the place.
 -- Source: plain.
 use Rattle.std.specs.Prelude.{◌≡◌, ◌<◌, ℕ, List, Some, slice_get}
 

@@ -11,7 +11,7 @@ abbrev Falls : ℕ → ℕ × ℕ → Type 0
 Falls n bounds = ¬ (IsRising bounds)
 
 second_falls : IsFirstOf Falls ranges (99, 97)
-second_falls = behind Falls (97, 98) _ (99, 97) (λ n. n (omega arith)) (at_front Falls (99, 97) _ (λ l. omega (arith, l)))
+second_falls = behind Falls (97, 98) ((99, 97) ∷ (98, 97) ∷ []) (99, 97) (λ n. n (omega arith)) (at_front Falls (99, 97) ((98, 97) ∷ []) (λ l. omega (arith, l)))
 
 pub returns-clause-first : goal.returns-clause-first
 returns-clause-first c = second_falls

@@ -1,10 +1,12 @@
 use Rattle.std.proofs.Common.{refl, [], ◌∷◌, codes, arith}
 use Rattle.std.specs.List.{AllByRecursion}
 use Rattle.ix_model.specs.Spelling.Spells.{IsHex}
-use Rattle.ix_model.specs.Grammars.Breach.{undefined}
+use Rattle.ix_model.specs.Grammars.Breach.{undefined, IsDefined}
+use Rattle.ix_model.specs.Grammars.Factors.{calls_of}
 use Rattle.ix_examples.specs.SmallGrammars.{only_a, hidden}
 use Rattle.ix_examples.specs.SmallSpellings.{in_order}
 use Rattle.ix_model.proofs.Folds.{the_folds}
+use Rattle.ix_model.proofs.Firsts.{in_front}
 use Rattle.ix_conformance_laws.proofs.Judging.{unrefused}
 use Rattle.ix_conformance_laws.proofs.ByTests.{no_version, not_defined, unique}
 use Rattle.ix_worked_examples.proofs.conformance.conforming.Goals as goal
@@ -22,4 +24,4 @@ pub returns-clause-no_hexadecimal : goal.returns-clause-no_hexadecimal
 returns-clause-no_hexadecimal c = λ h. let p : AllByRecursion IsHex (codes "4g" ∷ []) = simp the_folds at h.numbers in cc p.0.1.1.0
 
 pub returns-clause-undefined : goal.returns-clause-undefined
-returns-clause-undefined c = λ h. h.no_breach (undefined (codes "b")) ([], codes "c" ∷ codes "e" ∷ [], simp the_folds refl, tt, not_defined in_order (codes "b") refl)
+returns-clause-undefined c = λ h. h.no_breach (undefined (codes "b")) (in_front (λ n name. ¬ (IsDefined in_order name)) (calls_of in_order) (codes "c" ∷ codes "e" ∷ []) (codes "b") (simp the_folds refl) (not_defined in_order (codes "b") refl))

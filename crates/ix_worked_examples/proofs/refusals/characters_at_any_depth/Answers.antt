@@ -7,7 +7,7 @@ use Rattle.ix_worked_examples.proofs.refusals.characters_at_any_depth.Goals as g
 
 pub returns-clause-none : goal.returns-clause-none
 unfolding is_xml_char
-returns-clause-none c = λ x h. h.2 (all_pass is_xml_char (all_characters (document three_deep)) refl h.0 x h.1)
+returns-clause-none c = λ x h. h.1.1 (all_pass is_xml_char (all_characters (document three_deep)) refl h.0 x h.1.0)
 
 pub returns-clause-val : goal.returns-clause-val
 unfolding is_xml_char
@@ -23,4 +23,4 @@ returns-clause-outside c = first_failing is_xml_char [] 0 [] refl refl
 
 pub returns-clause-allowed : goal.returns-clause-allowed
 unfolding is_xml_char
-returns-clause-allowed c = λ x h. h.2 (all_pass is_xml_char (all_characters (document (text_of (9 ∷ 10 ∷ 13 ∷ 32 ∷ [])))) refl h.0 x h.1)
+returns-clause-allowed c = λ x h. h.1.1 (all_pass is_xml_char (all_characters (document (text_of (9 ∷ 10 ∷ 13 ∷ 32 ∷ [])))) refl h.0 x h.1.0)

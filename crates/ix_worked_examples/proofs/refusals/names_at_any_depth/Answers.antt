@@ -13,7 +13,7 @@ third (suc (suc n)) e = omega arith
 
 pub returns-clause-none : goal.returns-clause-none
 unfolding is_xml_name_start is_xml_name_char
-returns-clause-none c = λ name h. h.2 (all_pass is_xml_name (all_names (document three_deep)) refl h.0 name h.1)
+returns-clause-none c = λ name h. h.1.1 (all_pass is_xml_name (all_names (document three_deep)) refl h.0 name h.1.0)
 
 pub returns-clause-attribute : goal.returns-clause-attribute
 unfolding is_xml_name_start is_xml_name_char
@@ -29,4 +29,4 @@ returns-clause-empty c = first_failing is_xml_name [] [] [] refl refl
 
 pub returns-clause-not_second : goal.returns-clause-not_second
 unfolding is_xml_name_start is_xml_name_char
-returns-clause-not_second c = λ h. h.3 1 (codes ".a") (third h.0 h.1) refl (λ q. cc q)
+returns-clause-not_second c = λ h. h.1.2 1 (codes ".a") (third h.0 h.1.0) refl (λ q. cc q)
