@@ -2,6 +2,7 @@
 use Rattle.std.proofs.Common.{◌≡◌, ap, sym, subst, ◌∙◌, ◌⊎◌, ◌↔◌, ◌≤◌, ◌<◌, ℕ, Bool, false, IsTrue, List, length, arith, get_or, true≢false}
 use mathlib.Core.Logic.{inl, inr}
 use Rattle.std.specs.List.{Contains}
+use Rattle.std.proofs.lemmas.Bool.{cases_lt}
 use Rattle.std.proofs.lemmas.List.{get_or_default}
 use Rattle.std.proofs.lemmas.List.Elements.{Contains-get_or}
 use Rattle.ix_subtrees.specs.declared.entry.Entry.{Entry}
@@ -10,7 +11,6 @@ use Rattle.ix_model.specs.declared.sub.Sub.{Sub}
 use Rattle.ix_model.specs.Expansion.Parts.{Parts}
 use Rattle.ix_model.specs.Expansion.Slots.{info_at}
 use Rattle.ix_subtrees.specs.Sets.{SetLists}
-use Rattle.ix_subtrees.proofs.Visits.{less_or_not}
 use Rattle.ix_ambig.specs.TwoChoices.{HasTwoChoices, HasTwoWaysAt}
 
 module _ (es : List Entry) (n l r : ℕ) (found : List ℕ) (choices : AreChoicesOf es n l r found) where
@@ -25,7 +25,7 @@ module _ (es : List Entry) (n l r : ℕ) (found : List ℕ) (choices : AreChoice
       )
 
   pub several_of_two : HasTwoChoices es n l r → 1 < length found
-  several_of_two t = go (less_or_not 1 (length found))
+  several_of_two t = go (cases_lt 1 (length found))
     where
       j : Contains found t.0
       j = (choices.members t.0).1 t.3

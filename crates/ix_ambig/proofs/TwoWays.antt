@@ -1,6 +1,7 @@
 -- Some span has two ways exactly where the span of some listed subtree has.
 use Rattle.std.proofs.Common.{◌≡◌, ◌≢◌, ap, sym, subst, ◌∙◌, ◌⊎◌, ◌+◌, ◌≤◌, ◌<◌, ℕ, length, arith}
 use mathlib.Core.Logic.{inl, inr}
+use Rattle.std.proofs.lemmas.Bool.{cases_lt}
 use Rattle.std.proofs.lemmas.List.{get_or_default}
 use Rattle.ix_model.specs.declared.sub.Sub.{Sub}
 use Rattle.ix_model.specs.Expansion.Parts.{Parts}
@@ -16,7 +17,6 @@ use Rattle.ix_closure_laws.proofs.Reaching.{reached_part, useful_reached}
 use Rattle.ix_closure_laws.proofs.ClosedWithin.{part_within}
 use Rattle.ix_subtrees.specs.Entries.{entry_for, entry_at}
 use Rattle.ix_subtrees.specs.Sets.{sub_of_entry, SetLists, IsSetOf}
-use Rattle.ix_subtrees.proofs.Visits.{less_or_not}
 use Rattle.ix_ambig.specs.TwoChoices.{HasTwoChoices, HasTwoWaysAt}
 
 module _ (plan : Parts) (planned : IsPlanned plan) (set : SetLists) (of : IsSetOf plan set) where
@@ -28,7 +28,7 @@ module _ (plan : Parts) (planned : IsPlanned plan) (set : SetLists) (of : IsSetO
   nth_within n h =
       let e = entry_at set.ways n in
       let useful = (of.ways e).0 (n, h, get_or_default set.ways n e (entry_for 0 0 0 0) h) in
-      (part_within plan planned e.number e.left e.choice e.right (reached_part plan planned e.number e.left e.choice e.right (useful_reached plan planned (sub_of_entry e) useful))).0
+      (part_within plan planned e.span.number e.span.left e.choice e.span.right (reached_part plan planned e.span.number e.span.left e.choice e.span.right (useful_reached plan planned (sub_of_entry e) useful))).0
 
   pub two_ways_from : (sub : Sub) → HasTwoWaysAt plan set sub → HasTwoWays plan
   two_ways_from sub (inl h) =
@@ -76,7 +76,7 @@ module _ (plan : Parts) (planned : IsPlanned plan) (set : SetLists) (of : IsSetO
 
   -- none of the first subtrees has, nor has the next one
   pub none_next : (n i : ℕ) (sub : Sub) → sub ≡ nth n → (HasTwoWaysAt plan set sub → ⊥) → ((i : ℕ) → i < n → HasTwoWaysAt plan set (nth i) → ⊥) → i < n + 1 → HasTwoWaysAt plan set (nth i) → ⊥
-  none_next n i sub is hasnt none h t = go (less_or_not i n)
+  none_next n i sub is hasnt none h t = go (cases_lt i n)
     where
       go : (i < n) ⊎ (n ≤ i) → ⊥
       go (inl o) = none i o t

@@ -21,12 +21,11 @@ use Rattle.ix_examples.specs.SmallPlans.{call, literal}
 use Rattle.ix_closure_laws.proofs.ClosedWithin.{part_within}
 use Rattle.ix_model.proofs.SlotReaders.{first_reads, last_reads, next_reads}
 use Rattle.ix_examples.proofs.SmallPlans.{literal_stands}
-use Rattle.ix_subtrees.specs.Nodes.{Among}
 use Rattle.ix_subtrees.specs.Examples.{left_recursive_subs}
 use Rattle.ix_examples.specs.TestPlans.{left_recursive}
 use Rattle.ix_subtrees.specs.Laws.{LeftRecursiveIsListed, LeftRecursiveIsListedOnce}
-use Rattle.ix_subtrees.proofs.Lists.{contains_among}
-use Rattle.ix_subtrees.proofs.SmallSets.{by_same, same_sub, PartOf}
+use Rattle.ix_subtrees.proofs.Lists.{each_of}
+use Rattle.ix_subtrees.proofs.SmallSets.{same_sub, PartOf}
 
 -- what one more letter adds to the list
 abbrev subs_to_next : ℕ → List Sub
@@ -181,22 +180,12 @@ module _ (n : ℕ) (small : n < 2 ^ 32) where
       subst (End (left_recursive n) 0 0) next (ended 2 0 (p + 1) 0 (arrived 2 0 p (p + 1) (letter_part p (omega (arith, h)) (end_at p (omega (arith, h))))) last_2)
 
   pub listed_part : (m : ℕ) → m ≤ n → (sub : Sub) → Contains (left_recursive_subs m) sub → PartOf (left_recursive n) sub
-  listed_part zero h sub c = go (contains_among (left_recursive_subs 0) sub c.0 c.1 c.2)
-    where
-      go : Among (left_recursive_subs 0) sub → PartOf (left_recursive n) sub
-      go (inl e) = by_same (left_recursive n) (sub_at 3 0 0 0) sub empty_part e
-      go (inr (inl e)) = by_same (left_recursive n) (sub_at 1 0 0 0) sub (part_up_to 0 (end_at 0 (omega arith))) e
-      go (inr (inr e)) = absurd e
+  listed_part zero h sub c = each_of (PartOf (left_recursive n)) (left_recursive_subs 0) sub (empty_part, (part_up_to 0 (end_at 0 (omega arith)), tt)) c
   listed_part (suc m) h sub c = go (Contains-append_cases (left_recursive_subs m) (subs_to_next m) sub c) (listed_part m (omega (arith, h)) sub)
     where
-      new : Among (subs_to_next m) sub → PartOf (left_recursive n) sub
-      new (inl e) = by_same (left_recursive n) (sub_at 2 0 m (m + 1)) sub (letter_part m (omega (arith, h)) (end_at m (omega (arith, h)))) e
-      new (inr (inl e)) = by_same (left_recursive n) (sub_at 1 0 0 (m + 1)) sub (part_up_to (m + 1) (end_at (m + 1) (omega (arith, h)))) e
-      new (inr (inr e)) = absurd e
-
       go : Contains (left_recursive_subs m) sub ⊎ Contains (subs_to_next m) sub → (Contains (left_recursive_subs m) sub → PartOf (left_recursive n) sub) → PartOf (left_recursive n) sub
       go (inl d) old = old d
-      go (inr d) old = new (contains_among (subs_to_next m) sub d.0 d.1 d.2)
+      go (inr d) old = each_of (PartOf (left_recursive n)) (subs_to_next m) sub (letter_part m (omega (arith, h)) (end_at m (omega (arith, h))), (part_up_to (m + 1) (end_at (m + 1) (omega (arith, h))), tt)) d
 
 -- ---- and each is in the list
 

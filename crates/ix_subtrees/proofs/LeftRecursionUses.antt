@@ -2,6 +2,7 @@
 use Rattle.std.proofs.Common.{◌≡◌, ◌≢◌, refl, ap, sym, subst, ◌∙◌, ◌⊎◌, ◌+◌, ◌-◌, ◌^◌, ◌≤◌, ◌<◌, ℕ, zero, suc, length, replicate, None, arith}
 use mathlib.Core.Logic.{inl, inr}
 use Rattle.std.specs.List.{Contains}
+use Rattle.std.proofs.lemmas.Bool.{cases_lt}
 use Rattle.std.proofs.lemmas.List.{length-replicate}
 use Rattle.ix_model.specs.declared.sub.Sub.{Sub}
 use Rattle.ix_model.specs.Closure.Closed.{Part}
@@ -16,7 +17,6 @@ use Rattle.ix_examples.specs.TestPlans.{left_recursive}
 use Rattle.ix_subtrees.specs.Laws.{LeftRecursiveIsUseful}
 use Rattle.ix_subtrees.proofs.LeftRecursion.{planned_left, IsNext, next_left, last_left, IsOneOf, part_left, next_0, next_1, last_2, last_3, empty_part, part_up_to, letter_part, end_at, parts_left}
 use Rattle.ix_subtrees.proofs.SmallSets.{same_sub}
-use Rattle.ix_subtrees.proofs.Visits.{less_or_not}
 
 module _ (n : ℕ) (small : n < 2 ^ 32) where
   -- ---- from the end of the text back, S is reached up to each position
@@ -101,7 +101,7 @@ useful_left n small sub = (λ u. (listed u, not_last u), λ h. useful_of (left_r
 
         go : IsOneOf n small sub.slot sub.left sub.pivot sub.right → SubReached (left_recursive n) sub.slot sub.left sub.pivot sub.right
         go (z, inl t) = by (sub_at 3 0 0 0) (empty_reached n small) (sym (same_sub sub.slot sub.left sub.pivot sub.right 3 0 0 0 t.0 z t.1 t.2))
-        go (z, inr (inl t)) = up_to (less_or_not sub.right n) (sym (same_sub sub.slot sub.left sub.pivot sub.right 1 0 0 sub.right t.0 z t.1 refl))
+        go (z, inr (inl t)) = up_to (cases_lt sub.right n) (sym (same_sub sub.slot sub.left sub.pivot sub.right 1 0 0 sub.right t.0 z t.1 refl))
         go (z, inr (inr t)) =
             by (sub_at 2 0 sub.pivot (sub.pivot + 1)) (letter_reached n small sub.pivot (omega (arith, within, t.1)) (reached_up_to n small (sub.pivot + 1) (omega (arith, within, t.1))))
             (sym (same_sub sub.slot sub.left sub.pivot sub.right 2 0 sub.pivot (sub.pivot + 1) t.0 z refl t.1))

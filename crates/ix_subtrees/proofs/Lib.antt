@@ -1,4 +1,3 @@
-pub mod EntryOrder
 pub mod Found
 pub mod Gathering
 pub mod LastSlots
@@ -8,9 +7,9 @@ pub mod LeftRecursionUses
 pub mod Lists
 pub mod Made
 pub mod Meaning
+pub mod Orders
 pub mod Placed
 pub mod Points
-pub mod Rising
 pub mod Roots
 pub mod SmallEntries
 pub mod SmallSets

@@ -1,23 +1,14 @@
 -- The list of nodes, and what is kept of it.
-use Rattle.std.proofs.Common.{◌≡◌, refl, ap, sym, subst, ◌∙◌, ◌+◌, ◌<◌, ℕ, zero, suc, Bool, true, false, List, [], ◌∷◌, ◌++◌, length, map, arith, get_or, drop, if◌then◌else◌, replicate}
-use Rattle.std.specs.List.{All}
-use Rattle.std.specs.List.Sorted.{IsPermutation}
+use Rattle.std.proofs.Common.{◌≡◌, refl, ap, sym, subst, ◌∙◌, ◌+◌, ◌<◌, ℕ, zero, suc, Bool, true, false, List, [], ◌∷◌, ◌++◌, length, arith, get_or, drop, if◌then◌else◌, replicate}
 use Rattle.std.proofs.lemmas.List.{append_assoc}
-use Rattle.std.proofs.lemmas.List.Sorted.{All-permutation}
 use Rattle.ix_model.specs.declared.sub.Sub.{Sub}
 use Rattle.ix_subtrees.specs.declared.place.Place.{Place}
+use Rattle.ix_subtrees.specs.declared.node.Key.{Key}
 use Rattle.ix_subtrees.specs.declared.node.Node.{Node}
-use Rattle.ix_subtrees.specs.Nodes.{InOrder, Visited, no_node}
+use Rattle.ix_subtrees.specs.Nodes.{Visited, no_node}
 use Rattle.ix_subtrees.specs.Walks.{Walking}
-use Rattle.ix_subtrees.specs.Subs.{node_for, sub_of, IsFit, AreNodes, kept}
+use Rattle.ix_subtrees.specs.Subs.{sub_of, kept}
 use Rattle.ix_subtrees.proofs.Walked.{walking_first}
-
-pub nodes_made : (places : List Place) (subs : List Sub) (items sorted all : List Node) → items ≡ map (node_for places) subs → All IsFit items → IsPermutation items sorted → InOrder sorted → all ≡ sorted → AreNodes places subs all
-nodes_made places subs items sorted all e f p o a = subst (λ (z : List Node). AreNodes places subs z) (sym a) (record {
-  order = o;
-  same = subst (λ (z : List Node). IsPermutation z sorted) e p;
-  fit = All-permutation IsFit items sorted p f;
-})
 
 pub kept_next : (nodes : List Node) (marks : List Bool) (at : ℕ) → at < length nodes → length marks ≡ length nodes →
     kept (drop at nodes) (drop at marks) ≡ (if get_or marks at false then sub_of (get_or nodes at no_node) ∷ [] else []) ++ kept (drop (at + 1) nodes) (drop (at + 1) marks)
@@ -36,7 +27,7 @@ kept_more nodes marks at subs more h l e f = rw f (over (if get_or marks at fals
     over : (ys : List Sub) → (subs ++ ys) ++ kept (drop (at + 1) nodes) (drop (at + 1) marks) ≡ subs ++ (ys ++ kept (drop (at + 1) nodes) (drop (at + 1) marks))
     over ys = append_assoc subs ys (kept (drop (at + 1) nodes) (drop (at + 1) marks))
 
-pub walking_begun : (places : List Place) (nodes : List Node) (root n : ℕ) (before after marks : List Bool) (none todo : List ℕ) → before ≡ replicate n false → n ≡ length nodes → none ≡ [] → marks ≡ after → length after ≡ length nodes →
+pub walking_begun : (places : List Place) (nodes : List Node) (root : Key) (n : ℕ) (before after marks : List Bool) (none todo : List ℕ) → before ≡ replicate n false → n ≡ length nodes → none ≡ [] → marks ≡ after → length after ≡ length nodes →
     Visited nodes (root ∷ []) before none after todo → Walking places nodes root marks todo
 walking_begun places nodes root n before after marks none todo e l f g h v =
     subst (λ (z : List Bool). Walking places nodes root z todo) (sym g)

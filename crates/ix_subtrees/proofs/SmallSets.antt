@@ -1,6 +1,7 @@
 -- The subtrees of the closures of small plans.
 use Rattle.std.proofs.Common.{rules, ◌≡◌, refl, ap, sym, subst, ◌∙◌, ◌⊎◌, ◌+◌, ◌<◌, ℕ, zero, suc, List, [], ◌∷◌, Some, None, codes, arith, true}
 use mathlib.Core.Logic.{inl, inr}
+use Rattle.std.specs.List.{AllByRecursion, Contains}
 use Rattle.ix_model.specs.declared.rules.Sym.{Sym}
 use Rattle.ix_model.specs.declared.rules.Sym.TheVariants as S
 use Rattle.ix_model.specs.declared.sub.Sub.{Sub}
@@ -16,10 +17,9 @@ use Rattle.ix_closure_laws.proofs.ClosedWithin.{part_within}
 use Rattle.ix_model.proofs.SlotReaders.{first_reads, last_reads, next_reads, reads_first, reads_last, reads_next}
 use Rattle.ix_examples.proofs.SmallPlans.{planned_alternatives, literal_stands}
 use Rattle.ix_examples.proofs.SmallClosures.{part_a, part_1, no_part_b, part_c, part_1c, part_3c}
-use Rattle.ix_subtrees.specs.Nodes.{Among}
 use Rattle.ix_closure_laws.specs.PartLists.{AreParts}
 use Rattle.ix_examples.specs.TestPlans.{repeated_nothing}
-use Rattle.ix_subtrees.proofs.Lists.{among_contains, contains_among}
+use Rattle.ix_subtrees.proofs.Lists.{each_of}
 
 pub same_sub : (s l k r a b c d : ℕ) → s ≡ a → l ≡ b → k ≡ c → r ≡ d → sub_at s l k r ≡ sub_at a b c d
 same_sub s l k r a b c d e f g h =
@@ -29,36 +29,24 @@ abbrev pub PartOf : Parts → Sub → Type 0
 PartOf plan sub = Part plan sub.slot sub.left sub.pivot sub.right
 
 -- a list has exactly the subtrees where each of it is one and it has each
-pub are_parts : (plan : Parts) (subs : List Sub) → ((sub : Sub) → Among subs sub → PartOf plan sub) → ((s l k r : ℕ) → Part plan s l k r → Among subs (sub_at s l k r)) → AreParts plan subs
-are_parts plan subs each all sub = (λ h. each sub (contains_among subs sub h.0 h.1 h.2), λ h. among_contains subs sub (all sub.slot sub.left sub.pivot sub.right h))
-
-pub by_same : (plan : Parts) (x sub : Sub) → PartOf plan x → x ≡ sub → PartOf plan sub
-by_same plan x sub h e = subst (λ (z : Sub). PartOf plan z) e h
+pub are_parts : (plan : Parts) (subs : List Sub) → AllByRecursion (PartOf plan) subs → ((s l k r : ℕ) → Part plan s l k r → Contains subs (sub_at s l k r)) → AreParts plan subs
+are_parts plan subs each all sub = (each_of (PartOf plan) subs sub each, all sub.slot sub.left sub.pivot sub.right)
 
 -- ---- S: "a". on a and on b, and S: S; "a". on a
 
 pub parts_a : AreParts (only_a (codes "a")) (sub_at 1 0 0 1 ∷ [])
-parts_a = are_parts (only_a (codes "a")) (sub_at 1 0 0 1 ∷ []) each (λ s l k r h. let p = part_a s l k r h in inl (sym (same_sub s l k r 1 0 0 1 p.0 p.1 p.2 p.3)))
-  where
-    each : (sub : Sub) → Among (sub_at 1 0 0 1 ∷ []) sub → PartOf (only_a (codes "a")) sub
-    each sub (inl e) = by_same (only_a (codes "a")) (sub_at 1 0 0 1) sub part_1 e
-    each sub (inr h) = absurd h
+parts_a = are_parts (only_a (codes "a")) (sub_at 1 0 0 1 ∷ []) (part_1, tt) (λ s l k r h. let p = part_a s l k r h in (0, omega arith, sym (same_sub s l k r 1 0 0 1 p.0 p.1 p.2 p.3)))
 
 pub parts_b : AreParts (only_a (codes "b")) []
-parts_b = are_parts (only_a (codes "b")) [] (λ sub h. absurd h) (λ s l k r h. absurd (no_part_b s l k r h))
+parts_b = are_parts (only_a (codes "b")) [] tt (λ s l k r h. absurd (no_part_b s l k r h))
 
 pub parts_cycle : AreParts (cycle (codes "a")) (sub_at 3 0 0 1 ∷ sub_at 1 0 0 1 ∷ [])
-parts_cycle = are_parts (cycle (codes "a")) (sub_at 3 0 0 1 ∷ sub_at 1 0 0 1 ∷ []) each all
+parts_cycle = are_parts (cycle (codes "a")) (sub_at 3 0 0 1 ∷ sub_at 1 0 0 1 ∷ []) (part_3c, (part_1c, tt)) all
   where
-    each : (sub : Sub) → Among (sub_at 3 0 0 1 ∷ sub_at 1 0 0 1 ∷ []) sub → PartOf (cycle (codes "a")) sub
-    each sub (inl e) = by_same (cycle (codes "a")) (sub_at 3 0 0 1) sub part_3c e
-    each sub (inr (inl e)) = by_same (cycle (codes "a")) (sub_at 1 0 0 1) sub part_1c e
-    each sub (inr (inr h)) = absurd h
-
-    all : (s l k r : ℕ) → Part (cycle (codes "a")) s l k r → Among (sub_at 3 0 0 1 ∷ sub_at 1 0 0 1 ∷ []) (sub_at s l k r)
+    all : (s l k r : ℕ) → Part (cycle (codes "a")) s l k r → Contains (sub_at 3 0 0 1 ∷ sub_at 1 0 0 1 ∷ []) (sub_at s l k r)
     all s l k r h =
         let p = part_c s l k r h in
-        elim p.0 [ inl e ↦ inr (inl (sym (same_sub s l k r 1 0 0 1 e p.1 p.2 p.3))) | inr e ↦ inl (sym (same_sub s l k r 3 0 0 1 e p.1 p.2 p.3)) ]
+        elim p.0 [ inl e ↦ (1, omega arith, sym (same_sub s l k r 1 0 0 1 e p.1 p.2 p.3)) | inr e ↦ (0, omega arith, sym (same_sub s l k r 3 0 0 1 e p.1 p.2 p.3)) ]
 
 -- ---- how a slot has a subtree
 
@@ -122,35 +110,27 @@ part_again : Part repeated_nothing 6 0 0 0
 part_again = joined 2 0 5 0 0 6 None (waiting 5 0 0 6 2 None (arrived 5 0 0 0 part_first) (next_repeated 5 (call 2) (omega arith) refl)) end_group (next_repeated 5 (call 2) (omega arith) refl)
 
 pub parts_repeated : AreParts repeated_nothing repeated_subs
-parts_repeated = are_parts repeated_nothing repeated_subs each all
+parts_repeated = are_parts repeated_nothing repeated_subs (part_group, (part_whole, (part_one, (part_first, (part_again, tt))))) all
   where
-    each : (sub : Sub) → Among repeated_subs sub → PartOf repeated_nothing sub
-    each sub (inl e) = by_same repeated_nothing (sub_at 7 0 0 0) sub part_group e
-    each sub (inr (inl e)) = by_same repeated_nothing (sub_at 1 0 0 0) sub part_whole e
-    each sub (inr (inr (inl e))) = by_same repeated_nothing (sub_at 3 0 0 0) sub part_one e
-    each sub (inr (inr (inr (inl e)))) = by_same repeated_nothing (sub_at 5 0 0 0) sub part_first e
-    each sub (inr (inr (inr (inr (inl e))))) = by_same repeated_nothing (sub_at 6 0 0 0) sub part_again e
-    each sub (inr (inr (inr (inr (inr h))))) = absurd h
-
-    slot : (s : ℕ) → s < 8 → HasCause repeated_nothing s → Among repeated_subs (sub_at s 0 0 0)
+    slot : (s : ℕ) → s < 8 → HasCause repeated_nothing s → Contains repeated_subs (sub_at s 0 0 0)
     slot zero h (inl c) = absurd (cc c.0)
     slot zero h (inr c) = absurd (omega (arith, c.2))
-    slot (suc zero) h c = inr (inl refl)
+    slot (suc zero) h c = (1, omega arith, refl)
     slot (suc (suc zero)) h (inl c) = absurd (cc c.0)
     slot (suc (suc zero)) h (inr c) = let e : 1 ≡ c.0 = omega (arith, c.2) in absurd (cc (subst (λ (v : ℕ). sym_after repeated_nothing v ≡ Some c.1) (sym e) c.3))
-    slot (suc (suc (suc zero))) h c = inr (inr (inl refl))
+    slot (suc (suc (suc zero))) h c = (2, omega arith, refl)
     slot (suc (suc (suc (suc zero)))) h (inl c) = absurd (cc c.0)
     slot (suc (suc (suc (suc zero)))) h (inr c) = let e : 3 ≡ c.0 = omega (arith, c.2) in absurd (cc (subst (λ (v : ℕ). sym_after repeated_nothing v ≡ Some c.1) (sym e) c.3))
-    slot (suc (suc (suc (suc (suc zero))))) h c = inr (inr (inr (inl refl)))
-    slot (suc (suc (suc (suc (suc (suc zero)))))) h c = inr (inr (inr (inr (inl refl))))
-    slot (suc (suc (suc (suc (suc (suc (suc zero))))))) h c = inl refl
+    slot (suc (suc (suc (suc (suc zero))))) h c = (3, omega arith, refl)
+    slot (suc (suc (suc (suc (suc (suc zero)))))) h c = (4, omega arith, refl)
+    slot (suc (suc (suc (suc (suc (suc (suc zero))))))) h c = (0, omega arith, refl)
     slot (suc (suc (suc (suc (suc (suc (suc (suc s)))))))) h c = absurd (omega (arith, h))
 
-    all : (s l k r : ℕ) → Part repeated_nothing s l k r → Among repeated_subs (sub_at s l k r)
+    all : (s l k r : ℕ) → Part repeated_nothing s l k r → Contains repeated_subs (sub_at s l k r)
     all s l k r h =
         let w = part_within repeated_nothing planned_repeated s l k r h in
         let e : sub_at s 0 0 0 ≡ sub_at s l k r = same_sub s 0 0 0 s l k r refl (omega (arith, w.1, w.2, w.3)) (omega (arith, w.2, w.3)) (omega (arith, w.3)) in
-        subst (λ (z : Sub). Among repeated_subs z) e (slot s w.0 (part_cause repeated_nothing planned_repeated s l k r h))
+        subst (λ (z : Sub). Contains repeated_subs z) e (slot s w.0 (part_cause repeated_nothing planned_repeated s l k r h))
 
 -- ---- S: "a"; "a". on a
 
@@ -200,16 +180,11 @@ part_by s h e f g =
     (reads_next alternatives planned_alternatives s (s + 1) (literal 0) (omega (arith, h), g, refl)) (0, true, _, refl, refl, (refl, omega arith, refl))
 
 pub parts_alternatives : AreParts alternatives (sub_at 3 0 0 1 ∷ sub_at 1 0 0 1 ∷ [])
-parts_alternatives = are_parts alternatives (sub_at 3 0 0 1 ∷ sub_at 1 0 0 1 ∷ []) each all
+parts_alternatives = are_parts alternatives (sub_at 3 0 0 1 ∷ sub_at 1 0 0 1 ∷ []) (part_by 2 (omega arith) refl refl refl, (part_by 0 (omega arith) refl refl refl, tt)) all
   where
-    each : (sub : Sub) → Among (sub_at 3 0 0 1 ∷ sub_at 1 0 0 1 ∷ []) sub → PartOf alternatives sub
-    each sub (inl e) = by_same alternatives (sub_at 3 0 0 1) sub (part_by 2 (omega arith) refl refl refl) e
-    each sub (inr (inl e)) = by_same alternatives (sub_at 1 0 0 1) sub (part_by 0 (omega arith) refl refl refl) e
-    each sub (inr (inr h)) = absurd h
-
-    all : (s l k r : ℕ) → Part alternatives s l k r → Among (sub_at 3 0 0 1 ∷ sub_at 1 0 0 1 ∷ []) (sub_at s l k r)
+    all : (s l k r : ℕ) → Part alternatives s l k r → Contains (sub_at 3 0 0 1 ∷ sub_at 1 0 0 1 ∷ []) (sub_at s l k r)
     all s l k r h =
         let p = from_alternatives s l k r h in
         let w = part_within alternatives planned_alternatives s l k r h in
         let z : l ≡ 0 = omega (arith, w.1, p.1) in
-        elim p.0 [ inl e ↦ inr (inl (sym (same_sub s l k r 1 0 0 1 e z p.1 p.2))) | inr e ↦ inl (sym (same_sub s l k r 3 0 0 1 e z p.1 p.2)) ]
+        elim p.0 [ inl e ↦ (1, omega arith, sym (same_sub s l k r 1 0 0 1 e z p.1 p.2)) | inr e ↦ (0, omega arith, sym (same_sub s l k r 3 0 0 1 e z p.1 p.2)) ]

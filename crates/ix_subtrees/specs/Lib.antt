@@ -1,9 +1,9 @@
 pub mod Entries
-pub mod EntryCodes
 pub mod Examples
 pub mod Gathered
 pub mod Laws
 pub mod Nodes
+pub mod Orders
 pub mod Places
 pub mod Sets
 pub mod Subs

@@ -12,7 +12,7 @@ use Rattle.ix_subtrees.specs.Entries.{AreInOrder}
 
 -- the subtree of the entry's slot and span whose pivot is the entry's choice
 abbrev pub sub_of_entry : Entry → Sub
-sub_of_entry e = sub_at e.number e.left e.choice e.right
+sub_of_entry e = sub_at e.span.number e.span.left e.choice e.span.right
 
 -- what a contract sees of the set: pivots of slots, and alternatives of rules
 pub record SetLists : Type 0 where
@@ -30,7 +30,7 @@ module _ (plan : Parts) where
 
   -- an alternative is listed for its rule and a span exactly where a useful subtree of that span ends it
   abbrev pub AreAlts : List Entry → Type 0
-  AreAlts es = (e : Entry) → Contains es e ↔ ((s : ℕ) × (k : ℕ) × IsLastOf s e.number e.choice × Useful plan (sub_at s e.left k e.right))
+  AreAlts es = (e : Entry) → Contains es e ↔ ((s : ℕ) × (k : ℕ) × IsLastOf s e.span.number e.choice × Useful plan (sub_at s e.span.left k e.span.right))
 
   -- the set is the plan's: its useful subtrees, each once, in the order of slot, left, right, pivot, and the alternatives
   -- that they end

@@ -1,12 +1,11 @@
-ghost use Rattle.std.specs.Prelude.{◌≡◌, ◌<◌, IfOk, length, map, nat_lt, nat_le};
-ghost use Rattle.std.specs.List.{All};
+ghost use Rattle.std.specs.Prelude.{◌≡◌, ◌<◌, ◌≤◌, true, false, IfOk, length, map};
+ghost use Rattle.std.specs.List.Sorted.{IsStrictlySortedBy, IsPartitionPoint};
+ghost use Rattle.std.specs.Ordering.{is_lt, is_le};
 ghost use Rattle.ix_subtrees.specs.declared.entry.Entry.{Entry as AnEntry};
-ghost use Rattle.ix_subtrees.specs.Nodes.{span_code};
-ghost use Rattle.ix_subtrees.specs.Entries.{entry_at, AreInOrder, IsFitEntry, SameMembers, AreChoices, AreChoicesOf};
-ghost use Rattle.ix_subtrees.specs.EntryCodes.{entry_span, SpansInOrder, IsLowerEntry, IsUpperEntry};
+ghost use Rattle.ix_subtrees.specs.Orders.{span_cmp, entry_cmp};
+ghost use Rattle.ix_subtrees.specs.Entries.{entry_at, AreInOrder, SameMembers, AreChoices, AreChoicesOf};
 
-use crate::entries::{once, sort_entries};
-use crate::entry::{Entry, is_before, is_up_to};
+use crate::entry::{Entry, Span};
 use std::alloc::{AllocError, Global};
 use std::marker::Model;
 
@@ -21,41 +20,37 @@ fn choices_of(alloc: Global, entries: &[Entry]) -> Result<Vec<u32>, AllocError>
 }
 
 // How many entries come before those of the span.
-fn lower(entries: &[Entry], number: u32, left: u32, right: u32) -> usize
-    requires { SpansInOrder entries.now }
-    ensures { IsLowerEntry entries.now (span_code number left right) result }
+fn lower(entries: &[Entry], span: Span) -> usize
+    requires { IsStrictlySortedBy entry_cmp entries.now }
+    ensures within { result ≤ length entries.now }
+    ensures point { IsPartitionPoint (λ (e : AnEntry). is_lt (span_cmp e.span span) ≡ true) (λ (e : AnEntry). is_lt (span_cmp e.span span) ≡ false) entries.now result }
 {
     entries.partition_point(
         |entry: &Entry| -> bool
-            ensures { result ≡ nat_lt (entry_span entry.now) (span_code number left right) }
-        { is_before(*entry, number, left, right) },
+            ensures { result ≡ is_lt (span_cmp entry.now.span span) }
+        { entry.span < span },
     )
 }
 
 // How many entries come before those of the span or are among them.
-fn upper(entries: &[Entry], number: u32, left: u32, right: u32) -> usize
-    requires { SpansInOrder entries.now }
-    ensures { IsUpperEntry entries.now (span_code number left right) result }
+fn upper(entries: &[Entry], span: Span) -> usize
+    requires { IsStrictlySortedBy entry_cmp entries.now }
+    ensures within { result ≤ length entries.now }
+    ensures point { IsPartitionPoint (λ (e : AnEntry). is_le (span_cmp e.span span) ≡ true) (λ (e : AnEntry). is_le (span_cmp e.span span) ≡ false) entries.now result }
 {
     entries.partition_point(
         |entry: &Entry| -> bool
-            ensures { result ≡ nat_le (entry_span entry.now) (span_code number left right) }
-        { is_up_to(*entry, number, left, right) },
+            ensures { result ≡ is_le (span_cmp entry.now.span span) }
+        { entry.span <= span },
     )
 }
 
-fn choices_in<'a>(
-    entries: &[Entry],
-    choices: &'a [u32],
-    number: u32,
-    left: u32,
-    right: u32,
-) -> &'a [u32]
+fn choices_in<'a>(entries: &[Entry], choices: &'a [u32], span: Span) -> &'a [u32]
     requires { AreChoices entries.now choices.now }
-    ensures { AreChoicesOf entries.now number left right result.now }
+    ensures { AreChoicesOf entries.now span.number span.left span.right result.now }
 {
-    let low = lower(entries, number, left, right);
-    let high = upper(entries, number, left, right);
+    let low = lower(entries, span);
+    let high = upper(entries, span);
     &choices[low..high]
 }
 
@@ -82,12 +77,11 @@ impl Model for Choices {
 impl Choices {
     /// The choices that the entries name.
     pub fn of(alloc: Global, mut entries: Vec<Entry>) -> Result<Choices, AllocError>
-        requires { All IsFitEntry entries.items }
         ensures same { IfOk result (λ c. SameMembers c entries.items) }
         ensures order { IfOk result (λ c. AreInOrder c) }
     {
-        sort_entries(&mut entries);
-        let entries = once(alloc, &entries)?;
+        entries.sort_unstable();
+        entries.dedup();
         let choices = choices_of(alloc, &entries)?;
         Ok(Choices { entries, choices })
     }
@@ -108,9 +102,9 @@ impl Choices {
     }
 
     /// The choices of a span, in ascending order.
-    pub fn of_span(&self, number: u32, left: u32, right: u32) -> &[u32]
-        ensures { AreChoicesOf self.now number left right result.now }
+    pub fn of_span(&self, span: Span) -> &[u32]
+        ensures { AreChoicesOf self.now span.number span.left span.right result.now }
     {
-        choices_in(&self.entries, &self.choices, number, left, right)
+        choices_in(&self.entries, &self.choices, span)
     }
 }

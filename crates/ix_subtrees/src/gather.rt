@@ -2,11 +2,10 @@ ghost use Rattle.std.specs.Prelude.{◌≡◌, ◌<◌, ◌++◌, ℕ, Some, IfS
 ghost use Rattle.std.specs.Option.{option_to_list};
 ghost use Rattle.ix_model.specs.Expansion.Planned.{IsPlanned};
 ghost use Rattle.ix_subtrees.specs.declared.entry.Entry.{Entry as AnEntry};
-ghost use Rattle.ix_subtrees.specs.Entries.{IsFitEntry};
 ghost use Rattle.ix_subtrees.specs.Gathered.{IsAlt, IsWay, Gathered};
 ghost use Rattle.ix_subtrees.specs.Subs.{no_sub};
 
-use crate::entry::Entry;
+use crate::entry::{Entry, Span};
 use ix_model::{Plan, Sub};
 use std::alloc::{AllocError, Global};
 
@@ -16,13 +15,14 @@ fn alt_of(plan: &Plan, sub: Sub) -> Option<Entry>
     requires planned { IsPlanned plan.now }
     ensures alt { IfSome result (λ e. IsAlt plan.now sub e) }
     ensures only { (e : AnEntry) → IsAlt plan.now sub e → result ≡ Some e }
-    ensures fit { IfSome result (λ e. IsFitEntry e) }
 {
     match plan.sym(sub.slot) {
         None => Some(Entry {
-            number: plan.head(sub.slot),
-            left: sub.left,
-            right: sub.right,
+            span: Span {
+                number: plan.head(sub.slot),
+                left: sub.left,
+                right: sub.right,
+            },
             choice: plan.alt(sub.slot),
         }),
         Some(_) => None,
@@ -32,12 +32,13 @@ fn alt_of(plan: &Plan, sub: Sub) -> Option<Entry>
 fn way_of(sub: Sub) -> Entry
     ensures way { IsWay sub result }
     ensures only { (e : AnEntry) → IsWay sub e → result ≡ e }
-    ensures fit { IsFitEntry result }
 {
     Entry {
-        number: sub.slot,
-        left: sub.left,
-        right: sub.right,
+        span: Span {
+            number: sub.slot,
+            left: sub.left,
+            right: sub.right,
+        },
         choice: sub.pivot,
     }
 }

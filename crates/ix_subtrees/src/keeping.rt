@@ -5,7 +5,7 @@ ghost use Rattle.ix_subtrees.specs.UsefulSubs.{AreUseful};
 ghost use Rattle.ix_closure_laws.specs.PartLists.{AreParts};
 
 use crate::marking::marked;
-use crate::node::{Key, Node};
+use crate::node::{Key, Node, Owner};
 use crate::nodes::nodes_of;
 use crate::place::places;
 use ix_model::{Plan, Sub};
@@ -17,9 +17,9 @@ fn push_marked(subs: &mut Vec<Sub>, node: Node, mark: bool) -> Result<(), AllocE
     if mark {
         subs.push(Sub {
             slot: node.slot,
-            left: node.left,
+            left: node.key.left,
             pivot: node.pivot,
-            right: node.right,
+            right: node.key.right,
         })?;
     }
     Ok(())
@@ -43,14 +43,14 @@ pub fn useful_subs(alloc: Global, plan: &Plan, subs: &[Sub]) -> Result<Vec<Sub>,
     ensures useful { IfOk result (λ v. AreUseful plan.now v.items) }
     ensures planned { OnOk result (IsPlanned plan.now) }
 {
+    let places = places(alloc, plan)?;
+    let nodes = nodes_of(alloc, &places, subs)?;
     // The first rule over the whole text.
     let root = Key {
-        group: plan.slot_count() as u64,
+        owner: Owner::Rule(0),
         left: 0,
         right: plan.text().len() as u32,
     };
-    let places = places(alloc, plan)?;
-    let nodes = nodes_of(alloc, &places, subs)?;
     let marks = marked(alloc, &places, &nodes, root)?;
     kept_of(alloc, &nodes, &marks)
 }

@@ -2,7 +2,6 @@
 #![tactic(auto)]
 
 mod choices;
-mod entries;
 mod entry;
 mod gather;
 mod keeping;

@@ -1,20 +1,22 @@
-ghost use Rattle.std.specs.Prelude.{◌≡◌, ◌<◌, ℕ, [], ◌∷◌, nat_lt, length, get_or, IfOk, OnOk};
-ghost use Rattle.ix_subtrees.specs.Nodes.{span_code, node_code, InOrder, IsFirstAt, AreTogether, Visited, no_node};
-ghost use Rattle.ix_subtrees.specs.Walks.{codes_of, next_codes, Walking, AreLinked};
+ghost use Rattle.std.specs.Prelude.{◌≡◌, ◌<◌, ℕ, [], ◌∷◌, length, get_or, IfOk, OnOk};
+ghost use Rattle.std.specs.Ordering.{is_lt};
+ghost use Rattle.ix_subtrees.specs.Orders.{key_cmp};
+ghost use Rattle.ix_subtrees.specs.Nodes.{InOrder, IsFirstAt, AreTogether, Visited, no_node};
+ghost use Rattle.ix_subtrees.specs.Walks.{keys_of, next_keys, Walking, AreLinked};
 
-use crate::node::{Key, Node, is_at, is_below};
+use crate::node::{Key, Node, Owner};
 use crate::place::Place;
 use std::alloc::{AllocError, Global};
 
 // The number of the first node that does not come before the key.
 fn first_at(nodes: &[Node], key: Key) -> usize
     requires { InOrder nodes.now }
-    ensures { IsFirstAt nodes.now (span_code key.group key.left key.right) result }
+    ensures { IsFirstAt nodes.now key result }
 {
     nodes.partition_point(
         |node: &Node| -> bool
-            ensures { result ≡ nat_lt (node_code node.now) (span_code key.group key.left key.right) }
-        { is_below(*node, key) },
+            ensures { result ≡ is_lt (key_cmp node.now.key key) }
+        { node.key < key },
     )
 }
 
@@ -29,10 +31,10 @@ fn visit(
     requires order { InOrder nodes.now }
     requires same { length marks.old ≡ length nodes.now }
     requires together { AreTogether nodes.now marks.old }
-    ensures { OnOk result (Visited nodes.now (span_code key.group key.left key.right ∷ []) marks.old todo.old.items marks.new todo.new.items) }
+    ensures { OnOk result (Visited nodes.now (key ∷ []) marks.old todo.old.items marks.new todo.new.items) }
 {
     let mut at = first_at(nodes, key);
-    while at < nodes.len() && is_at(nodes[at], key) && !marks[at] {
+    while at < nodes.len() && nodes[at].key == key && !marks[at] {
         marks[at] = true;
         todo.push(at)?;
         at += 1;
@@ -42,7 +44,7 @@ fn visit(
 
 fn visit_some(
     nodes: &[Node],
-    group: Option<u64>,
+    owner: Option<Owner>,
     left: u32,
     right: u32,
     marks: &mut [bool],
@@ -51,10 +53,10 @@ fn visit_some(
     requires order { InOrder nodes.now }
     requires same { length marks.old ≡ length nodes.now }
     requires together { AreTogether nodes.now marks.old }
-    ensures { OnOk result (Visited nodes.now (codes_of group left right) marks.old todo.old.items marks.new todo.new.items) }
+    ensures { OnOk result (Visited nodes.now (keys_of owner left right) marks.old todo.old.items marks.new todo.new.items) }
 {
-    if let Some(group) = group {
-        visit(nodes, Key { group, left, right }, marks, todo)?;
+    if let Some(owner) = owner {
+        visit(nodes, Key { owner, left, right }, marks, todo)?;
     }
     Ok(())
 }
@@ -70,10 +72,10 @@ fn visit_next(
     requires order { InOrder nodes.now }
     requires same { length marks.old ≡ length nodes.now }
     requires together { AreTogether nodes.now marks.old }
-    ensures { OnOk result (Visited nodes.now (next_codes place node) marks.old todo.old.items marks.new todo.new.items) }
+    ensures { OnOk result (Visited nodes.now (next_keys place node) marks.old todo.old.items marks.new todo.new.items) }
 {
-    visit_some(nodes, place.before, node.left, node.pivot, marks, todo)?;
-    visit_some(nodes, place.child, node.pivot, node.right, marks, todo)
+    visit_some(nodes, place.before, node.key.left, node.pivot, marks, todo)?;
+    visit_some(nodes, place.child, node.pivot, node.key.right, marks, todo)
 }
 
 // Marks all that is linked to what is owed.
@@ -86,8 +88,8 @@ fn walk(
 ) -> Result<(), AllocError>
     requires order { InOrder nodes.now }
     requires slots { (i : ℕ) → i < length nodes.now → (get_or nodes.now i no_node).slot < length places.now }
-    requires walking { Walking places.now nodes.now (span_code root.group root.left root.right) marks.old todo.items }
-    ensures { OnOk result (AreLinked places.now nodes.now (span_code root.group root.left root.right) marks.new) }
+    requires walking { Walking places.now nodes.now root marks.old todo.items }
+    ensures { OnOk result (AreLinked places.now nodes.now root marks.new) }
 {
     while let Some(at) = todo.pop() {
         let node = nodes[at];
@@ -106,7 +108,7 @@ pub fn marked(
 ) -> Result<Vec<bool>, AllocError>
     requires order { InOrder nodes.now }
     requires slots { (i : ℕ) → i < length nodes.now → (get_or nodes.now i no_node).slot < length places.now }
-    ensures { IfOk result (λ v. AreLinked places.now nodes.now (span_code root.group root.left root.right) v.items) }
+    ensures { IfOk result (λ v. AreLinked places.now nodes.now root v.items) }
 {
     let mut marks = vec![in alloc; false; nodes.len()]?;
     let mut todo = Vec::new(alloc);

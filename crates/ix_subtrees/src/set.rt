@@ -12,6 +12,7 @@ ghost use Rattle.ix_subtrees.specs.UsefulSubs.{AreUseful};
 ghost use Rattle.ix_closure_laws.specs.PartLists.{AreParts};
 
 use crate::choices::Choices;
+use crate::entry::Span;
 use crate::gather::{alts_of, ways_of};
 use crate::keeping::useful_subs;
 use ix_model::{Plan, Sub};
@@ -86,10 +87,10 @@ impl SubSet {
     {
         let entry = self.ways.entry(n);
         Sub {
-            slot: entry.number,
-            left: entry.left,
+            slot: entry.span.number,
+            left: entry.span.left,
             pivot: entry.choice,
-            right: entry.right,
+            right: entry.span.right,
         }
     }
 
@@ -97,13 +98,21 @@ impl SubSet {
     pub fn ways(&self, slot: u32, low: u32, high: u32) -> &[u32]
         ensures { AreChoicesOf self.now.ways slot low high result.now }
     {
-        self.ways.of_span(slot, low, high)
+        self.ways.of_span(Span {
+            number: slot,
+            left: low,
+            right: high,
+        })
     }
 
     /// The alternatives that derive the rule from `low` to `high`, in ascending order.
     pub fn alts(&self, rule: u32, low: u32, high: u32) -> &[u32]
         ensures { AreChoicesOf self.now.alts rule low high result.now }
     {
-        self.alts.of_span(rule, low, high)
+        self.alts.of_span(Span {
+            number: rule,
+            left: low,
+            right: high,
+        })
     }
 }

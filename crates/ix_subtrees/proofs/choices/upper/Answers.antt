@@ -1,21 +1,13 @@
 use Rattle.std.proofs.Common.{rules}
-use Rattle.std.specs.Prelude.{nat_le}
-use Rattle.std.proofs.lemmas.List.Sorted.{IsPartitionPoint-from_clause, IsPartitionedBy-leb, IsNonDecreasingBy-from_default}
+use Rattle.std.specs.Ordering.{is_le}
+use Rattle.std.proofs.lemmas.List.Sorted.{IsPartitionPoint-from_clause}
 use Rattle.ix_subtrees.specs.declared.entry.Entry.{Entry}
-use Rattle.ix_subtrees.specs.Nodes.{span_code}
-use Rattle.ix_subtrees.specs.Entries.{entry_for}
-use Rattle.ix_subtrees.specs.EntryCodes.{entry_span}
-use Rattle.ix_subtrees.proofs.Points.{up_to_before, more_from}
+use Rattle.ix_subtrees.specs.Orders.{span_cmp}
+use Rattle.ix_subtrees.proofs.Orders.{span_total, spans_sorted}
+use Rattle.ix_subtrees.proofs.Points.{parted_up_to}
 use Rattle.ix_subtrees.proofs.choices.upper.Goals as goal
 
-pub returns : goal.returns
-returns c =
-    let code = span_code c.args.number c.args.left c.args.right in
-    let entries = c.args.entries.now in
-    let order = IsPartitionedBy-leb entry_span entries code (IsNonDecreasingBy-from_default entry_span entries (entry_for 0 0 0 0) c.requires) in
-    let point = IsPartitionPoint-from_clause (λ (e : Entry). nat_le (entry_span e) code) entries _ c.partition_point.ensures.partitioned order (λ a r q k. search rules) in
-    record {
-      within = (search rules);
-      below = up_to_before entry_span entries code c.partition_point.result (entry_for 0 0 0 0) point;
-      above = more_from entry_span entries code c.partition_point.result (entry_for 0 0 0 0) point;
-    }
+pub returns-clause-point : goal.returns-clause-point
+returns-clause-point c =
+    IsPartitionPoint-from_clause (λ (e : Entry). is_le (span_cmp e.span c.args.span)) c.args.entries.now _ c.partition_point.ensures.partitioned
+    (parted_up_to span_total (λ (e : Entry). e.span) c.args.entries.now c.args.span (spans_sorted c.args.entries.now c.requires)) (λ a r q k. search rules)

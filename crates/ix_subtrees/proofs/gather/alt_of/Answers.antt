@@ -11,10 +11,10 @@ returns-in-None-clause-alt c =
 
 pub returns-in-None-clause-only : goal.returns-in-None-clause-only
 returns-in-None-clause-only c = λ e h.
-    let r = last_of_reads c.args.plan.now c.args.sub.slot e.number e.choice h.0 in
+    let r = last_of_reads c.args.plan.now c.args.sub.slot e.span.number e.choice h.0 in
     ap Some (sym (made_same e c.head.result c.args.sub.left c.args.sub.right c.alt.result (sym (c.head.ensures ∙ r.1)) h.1 h.2 (sym (c.alt.ensures ∙ r.2))))
 
 pub returns-in-Some-clause-only : goal.returns-in-Some-clause-only
 returns-in-Some-clause-only c = λ e h.
-    let r = last_of_reads c.args.plan.now c.args.sub.slot e.number e.choice h.0 in
+    let r = last_of_reads c.args.plan.now c.args.sub.slot e.span.number e.choice h.0 in
     absurd (cc (c.in-Some.ensures.symbol, r.3))

@@ -1,19 +1,14 @@
 use Rattle.std.proofs.Common.{rules}
-use Rattle.std.specs.Prelude.{nat_lt}
-use Rattle.std.proofs.lemmas.List.Sorted.{IsPartitionPoint-from_clause, IsPartitionedBy-ltb, IsNonDecreasingBy-from_default}
+use Rattle.std.specs.Ordering.{is_lt}
+use Rattle.std.proofs.lemmas.List.Sorted.{IsPartitionPoint-from_clause}
 use Rattle.ix_subtrees.specs.declared.node.Node.{Node}
-use Rattle.ix_subtrees.specs.Nodes.{span_code, node_code, no_node}
-use Rattle.ix_subtrees.proofs.Points.{less_before, not_less_from}
+use Rattle.ix_subtrees.specs.Orders.{key_cmp}
+use Rattle.ix_subtrees.proofs.Orders.{key_total}
+use Rattle.ix_subtrees.proofs.Points.{parted_before}
 use Rattle.ix_subtrees.proofs.marking.first_at.Goals as goal
 
 pub returns : goal.returns
-returns c =
-    let code = span_code c.args.key.group c.args.key.left c.args.key.right in
-    let nodes = c.args.nodes.now in
-    let order = IsPartitionedBy-ltb node_code nodes code (IsNonDecreasingBy-from_default node_code nodes no_node c.requires) in
-    let point = IsPartitionPoint-from_clause (λ (n : Node). nat_lt (node_code n) code) nodes _ c.partition_point.ensures.partitioned order (λ a r q k. search rules) in
-    record {
-      within = (search rules);
-      below = less_before node_code nodes code c.partition_point.result no_node point;
-      above = not_less_from node_code nodes code c.partition_point.result no_node point;
-    }
+returns c = record {
+  within = c.partition_point.ensures.bound;
+  point = IsPartitionPoint-from_clause (λ (n : Node). is_lt (key_cmp n.key c.args.key)) c.args.nodes.now _ c.partition_point.ensures.partitioned (parted_before key_total (λ (n : Node). n.key) c.args.nodes.now c.args.key c.requires) (λ a r q k. search rules);
+}

@@ -1,17 +1,12 @@
-use Rattle.std.proofs.Common.{length}
 use Rattle.std.proofs.lemmas.Result.{IfOk-weaker}
 use Rattle.ix_subtrees.specs.Entries.{SameMembers}
 use Rattle.ix_subtrees.specs.Sets.{AreAlts}
-use Rattle.ix_subtrees.specs.Gathered.{IsAlt}
-use Rattle.ix_subtrees.proofs.Gathering.{alts_are, all_fit}
+use Rattle.ix_subtrees.proofs.Gathering.{alts_are}
 use Rattle.ix_subtrees.proofs.Meaning.{useful_below}
 use Rattle.ix_subtrees.proofs.set.alts_kept.Goals as goal
 
 pub alts_of-requires-clause-slots : goal.alts_of-requires-clause-slots
 alts_of-requires-clause-slots c = useful_below c.args.plan.now c.requires.planned c.args.kept.now c.requires.useful
-
-pub of-requires : goal.of-requires
-of-requires c = all_fit (IsAlt c.args.plan.now) c.args.kept.now (length c.args.kept.now) c.in_ok-alts_of.field-0.items c.in_ok-alts_of.ensures
 
 pub returns : goal.returns
 returns c =

@@ -1,21 +1,31 @@
-use Rattle.std.proofs.Common.{rules, ◌≡◌, sym, subst, ◌∙◌, List}
-use Rattle.std.specs.List.{All}
-use Rattle.std.specs.List.Sorted.{IsPermutation}
-use Rattle.std.proofs.lemmas.List.{with_items_is}
-use Rattle.std.proofs.lemmas.List.Sorted.{length_permutation, All-permutation}
-use Rattle.ix_subtrees.specs.declared.entry.Entry.{Entry}
-use Rattle.ix_subtrees.specs.Entries.{IsFitEntry, SameMembers}
-use Rattle.ix_subtrees.proofs.Rising.{same_through}
+use Rattle.std.proofs.Common.{rules}
+use Rattle.std.specs.List.Sorted.{IsStrictlySortedBy}
+use Rattle.std.proofs.lemmas.List.Filters.{dedup_is}
+use Rattle.std.proofs.lemmas.List.Sorted.{Contains-permutation, IsPermutation-sym}
+use Rattle.std.proofs.lemmas.List.Kept.{Contains-dedup, Contains-from_dedup, IsStrictlySortedBy-dedup}
+use Rattle.ix_subtrees.specs.contracts.entry.EntryOrd.TheImpl.Laws as of_entries
+use Rattle.ix_subtrees.specs.contracts.entry.EntryEq.TheImpl.Laws as same_entries
+use Rattle.ix_subtrees.specs.Orders.{entry_cmp}
+use Rattle.ix_subtrees.proofs.Orders.{same_entry, entries_in_order}
 use Rattle.ix_subtrees.proofs.choices.Choices.of.Goals as goal
 
-pub once-requires-clause-fit : goal.once-requires-clause-fit
-once-requires-clause-fit c =
-    let p : IsPermutation c.args.entries.items c.sort_entries.new.entries = subst (λ (z : List Entry). IsPermutation z c.sort_entries.new.entries) c.deref_mut.ensures.value c.sort_entries.ensures.same in
-    let e : c.deref.result.now ≡ c.sort_entries.new.entries = c.deref.ensures.value ∙ with_items_is c.args.entries c.sort_entries.new.entries (length_permutation c.args.entries.items c.sort_entries.new.entries p ∙ search rules) in
-    subst (λ (z : List Entry). All IsFitEntry z) (sym e) (All-permutation IsFitEntry c.args.entries.items c.sort_entries.new.entries p c.requires)
+pub invariant_of-result : goal.invariant_of-result
+invariant_of-result c = record {
+  order = rw (dedup_is _ _ _ c.dedup.ensures.filtered) (IsStrictlySortedBy-dedup of_entries.total-law of_entries.matches_eq-law _ c.sort_unstable.ensures.sorted);
+  same = (search rules);
+}
 
 pub returns-clause-same : goal.returns-clause-same
 returns-clause-same c =
-    let p : IsPermutation c.args.entries.items c.sort_entries.new.entries = subst (λ (z : List Entry). IsPermutation z c.sort_entries.new.entries) c.deref_mut.ensures.value c.sort_entries.ensures.same in
-    let e : c.deref.result.now ≡ c.sort_entries.new.entries = c.deref.ensures.value ∙ with_items_is c.args.entries c.sort_entries.new.entries (length_permutation c.args.entries.items c.sort_entries.new.entries p ∙ search rules) in
-    same_through c.args.entries.items c.sort_entries.new.entries c.in_ok-entries.entries.items p (subst (λ (z : List Entry). SameMembers c.in_ok-entries.entries.items z) e c.in_ok-entries.ensures.same)
+    let is = dedup_is _ _ _ c.dedup.ensures.filtered in
+    let moved = c.sort_unstable.ensures.permutation in
+    λ e. (
+      λ h. Contains-permutation _ _ e (IsPermutation-sym _ _ moved) (Contains-from_dedup _ _ e (rw is at h)),
+      λ h. rw is (Contains-dedup same_entries.laws-law same_entry _ e (Contains-permutation _ _ e moved h)),
+    )
+
+pub returns-clause-order : goal.returns-clause-order
+returns-clause-order c =
+    let sorted : IsStrictlySortedBy entry_cmp c.dedup.new.self.items =
+    rw (dedup_is _ _ _ c.dedup.ensures.filtered) (IsStrictlySortedBy-dedup of_entries.total-law of_entries.matches_eq-law _ c.sort_unstable.ensures.sorted) in
+    entries_in_order c.dedup.new.self.items sorted
