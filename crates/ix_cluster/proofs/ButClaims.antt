@@ -1,13 +1,13 @@
 -- A log without its claims.
 use Rattle.std.proofs.Common.{◌≡◌, ℕ, ◌+◌, Bool, true, false, cond, ◌||◌, List, [], ◌∷◌, max, filter, refl, sym, ap, ◌∙◌, arith, true≢false, ◌⊎◌, inl, inr}
 use Rattle.std.specs.List.{IsDistinct, AllByRecursion, fold, filter_map, count_by}
-use Rattle.std.proofs.lemmas.List.Sums.{sum_by-cons}
 use Rattle.std.proofs.lemmas.Map.Keys.{IsDistinct-head, IsDistinct-tail, IsDistinct-cons}
 use Rattle.ix_cluster.specs.declared.fact.Fact.{Fact}
 use Rattle.ix_cluster.specs.declared.fact.Fact.TheVariants.{Called, Edge, End, Desc, Part, Claim}
 use Rattle.ix_cluster.specs.Banks.{later_of, is_descriptor, recorded_sub}
 use Rattle.ix_cluster.specs.Facts.{has, same_fact}
 use Rattle.ix_cluster.specs.LogPlaces.{is_no_claim}
+use Rattle.ix_cluster.proofs.CountBy.{count_cons}
 use Rattle.ix_cluster.proofs.Counts.{either}
 
 no_claim-apart : (f g : Fact) → is_no_claim f ≡ true → is_no_claim g ≡ false → same_fact f g ≡ false
@@ -55,17 +55,14 @@ later_but_claims (Desc s l p ∷ log) pos = later_but_claims log (max pos p)
 later_but_claims (Part sub ∷ log) pos = later_but_claims log pos
 later_but_claims (Claim s l p ∷ log) pos = later_but_claims log pos
 
-one-more : (f : Fact) (log : List Fact) → count_by is_descriptor (f ∷ log) ≡ cond (is_descriptor f) 1 0 + count_by is_descriptor log
-one-more f log = sum_by-cons (λ x. cond (is_descriptor x) 1 0) f log
-
 pub descriptors_but_claims : (log : List Fact) → count_by is_descriptor (filter is_no_claim log) ≡ count_by is_descriptor log
 descriptors_but_claims [] = refl
-descriptors_but_claims (Called r k ∷ log) = omega (arith, descriptors_but_claims log, one-more (Called r k) log, one-more (Called r k) (filter is_no_claim log))
-descriptors_but_claims (Edge r k s l ∷ log) = omega (arith, descriptors_but_claims log, one-more (Edge r k s l) log, one-more (Edge r k s l) (filter is_no_claim log))
-descriptors_but_claims (End r k e ∷ log) = omega (arith, descriptors_but_claims log, one-more (End r k e) log, one-more (End r k e) (filter is_no_claim log))
-descriptors_but_claims (Desc s l p ∷ log) = omega (arith, descriptors_but_claims log, one-more (Desc s l p) log, one-more (Desc s l p) (filter is_no_claim log))
-descriptors_but_claims (Part sub ∷ log) = omega (arith, descriptors_but_claims log, one-more (Part sub) log, one-more (Part sub) (filter is_no_claim log))
-descriptors_but_claims (Claim s l p ∷ log) = omega (arith, descriptors_but_claims log, one-more (Claim s l p) log)
+descriptors_but_claims (Called r k ∷ log) = omega (arith, descriptors_but_claims log, count_cons is_descriptor (Called r k) log, count_cons is_descriptor (Called r k) (filter is_no_claim log))
+descriptors_but_claims (Edge r k s l ∷ log) = omega (arith, descriptors_but_claims log, count_cons is_descriptor (Edge r k s l) log, count_cons is_descriptor (Edge r k s l) (filter is_no_claim log))
+descriptors_but_claims (End r k e ∷ log) = omega (arith, descriptors_but_claims log, count_cons is_descriptor (End r k e) log, count_cons is_descriptor (End r k e) (filter is_no_claim log))
+descriptors_but_claims (Desc s l p ∷ log) = omega (arith, descriptors_but_claims log, count_cons is_descriptor (Desc s l p) log, count_cons is_descriptor (Desc s l p) (filter is_no_claim log))
+descriptors_but_claims (Part sub ∷ log) = omega (arith, descriptors_but_claims log, count_cons is_descriptor (Part sub) log, count_cons is_descriptor (Part sub) (filter is_no_claim log))
+descriptors_but_claims (Claim s l p ∷ log) = omega (arith, descriptors_but_claims log, count_cons is_descriptor (Claim s l p) log)
 
 pub subs_but_claims : (log : List Fact) → filter_map recorded_sub (filter is_no_claim log) ≡ filter_map recorded_sub log
 subs_but_claims [] = refl

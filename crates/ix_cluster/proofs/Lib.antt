@@ -3,6 +3,7 @@ pub mod ButClaims
 pub mod CalledEdges
 pub mod Calls
 pub mod Consistency
+pub mod CountBy
 pub mod Counts
 pub mod Elements
 pub mod FactLemmas

@@ -11,6 +11,7 @@ use Rattle.ix_cluster.specs.declared.fact.Fact.{Fact}
 use Rattle.ix_cluster.specs.declared.fact.Fact.TheVariants as fact
 use Rattle.ix_cluster.specs.Banks.{facts_of}
 use Rattle.ix_cluster.specs.Facts.{has, put}
+use Rattle.ix_cluster.proofs.CountBy.{count_append}
 use Rattle.ix_cluster.proofs.Beginning.{at_end_of}
 use Rattle.ix_cluster.proofs.Counts.{either, put-new}
 use Rattle.ix_cluster.proofs.Members.{one_has, none_has, has-Contains}
@@ -24,7 +25,6 @@ use Rattle.ix_closure.specs.Quantity.{same_step, times, givers, gives}
 use Rattle.ix_closure.specs.Seen.{State}
 use Rattle.ix_closure.specs.Tidy.{IsTidy}
 use Rattle.ix_closure.proofs.Due.DueCauses.{ArrivesBy, cause_of}
-use Rattle.ix_closure.proofs.Lists.ListCounts.{count_append}
 use Rattle.ix_closure.proofs.Tidying.OwedTimes.{same_step_refl, same_step_true}
 use Rattle.ix_closure.proofs.Due.StepLogs.{IsBeside, has_not}
 use Rattle.ix_closure.proofs.Tidying.TidyCauses.{IsSingle, IsBroughtOnce, brought_alone}

@@ -1,7 +1,6 @@
 -- How many facts pass a test, as facts are put into a log, a rule is called, a step is done, and one of several banks changes.
 use Rattle.std.proofs.Common.{◌≡◌, ℕ, ◌+◌, ◌≤◌, Bool, true, false, cond, List, [], ◌∷◌, ◌++◌, count_by, Some, slice_get, slice_set, refl, ap, arith}
 use Rattle.std.specs.List.{sum_by}
-use Rattle.std.proofs.lemmas.List.Recursion.{is_count_by}
 use Rattle.std.proofs.lemmas.List.Sums.{sum_by-cons}
 use Rattle.ix_model.specs.Expansion.Parts.{Parts}
 use Rattle.ix_cluster.specs.declared.fact.Fact.{Fact}
@@ -9,25 +8,14 @@ use Rattle.ix_cluster.specs.declared.fact.Fact.TheVariants as fact
 use Rattle.ix_cluster.specs.Banks.{facts_of}
 use Rattle.ix_cluster.specs.Facts.{has, put}
 use Rattle.ix_cluster.specs.Firsts.{is_at_end, firsts_of}
-use Rattle.ix_cluster.specs.Room.{tally}
 use Rattle.ix_cluster.specs.Seen.{Bank}
 use Rattle.ix_cluster.specs.Steps.{empty_sub, after_first, after_firsts, after_call}
+use Rattle.ix_cluster.proofs.CountBy.{count_append}
 use Rattle.ix_cluster.proofs.Counts.{put-new}
 use Rattle.ix_closure.specs.declared.owed.Owed.{Owed}
 use Rattle.ix_closure.specs.declared.owed.Owed.TheVariants.{Claim, Edge, End, Arrive}
 use Rattle.ix_closure.specs.Events.{log_after}
-use Rattle.ix_closure.proofs.Lists.ListCounts.{count_append, sum_set}
-
--- the two counts of what passes a test are one
-pub tallied : (p : Fact → Bool) (xs : List Fact) → tally p xs ≡ count_by p xs
-tallied p xs = is_count_by (tally p) p refl one xs
-  where
-    one : (x : Fact) (ys : List Fact) → tally p (x ∷ ys) ≡ cond (p x) (1 + tally p ys) (tally p ys)
-    one x ys = by (p x)
-      where
-        by : (b : Bool) → cond b 1 0 + tally p ys ≡ cond b (1 + tally p ys) (tally p ys)
-        by true = refl
-        by false = omega arith
+use Rattle.ix_closure.proofs.Lists.ListCounts.{sum_set}
 
 module _ (p : Fact → Bool) where
   -- ---- in one log
