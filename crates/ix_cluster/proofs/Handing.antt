@@ -5,6 +5,7 @@ use Rattle.std.proofs.lemmas.List.Sums.{count_by-le-length}
 use Rattle.std.proofs.Math.Nat.{mul-le-mul}
 use Rattle.ix_model.specs.Expansion.Parts.{Parts}
 use Rattle.ix_model.specs.declared.sub.Sub.{Sub}
+use Rattle.ix_cluster.specs.declared.limits.TheConstants.{FACT_LIMIT}
 use Rattle.ix_cluster.specs.declared.cluster.Edge.{Edge as Arc}
 use Rattle.ix_cluster.specs.declared.fact.Fact.{Fact}
 use Rattle.ix_cluster.specs.declared.fact.Fact.TheVariants.{Called, Edge, End, Desc, Part, Claim}
@@ -141,9 +142,9 @@ pub handed-le : (log : List Fact) → pair_count log ≤ length log * length log
 handed-le [] = omega arith
 handed-le (f ∷ log) = grind (arith, handed-le log, count_by-le-length (meets f) log)
 
-pub handed-small : (log : List Fact) → length log < 2 ^ 57 → pair_count log < 2 ^ 115
+pub handed-small : (log : List Fact) → length log < FACT_LIMIT → pair_count log ≤ FACT_LIMIT * FACT_LIMIT
 handed-small log h =
-    let less : length log ≤ 2 ^ 57 = omega arith in
+    let less : length log ≤ FACT_LIMIT = omega arith in
     omega (arith, handed-le log, mul-le-mul less less)
 
 pub handed-after_end : (log new : List Fact) (r k e handed len : ℕ) → has log (End r k e) ≡ false → new ≡ put log (End r k e) → handed ≡ pair_count log → len ≡ length (edges_in log (cluster r k)) → handed + len ≡ pair_count new

@@ -9,6 +9,7 @@ use Rattle.std.proofs.lemmas.Map.Keys.{IsDistinct-head, IsDistinct-tail, IsDisti
 use Rattle.std.proofs.lemmas.Bool.{cases_eq}
 use Rattle.std.proofs.lemmas.Option.{get_or_from_slice_get, slice_get_within, slice_get-map, slice_get_read, slice_get-get_or}
 use Rattle.std.proofs.Math.Seq.{get_or-append_seam}
+use Rattle.ix_cluster.specs.declared.limits.TheConstants.{FACT_LIMIT}
 use Rattle.ix_cluster.specs.declared.fact.Fact.{Fact}
 use Rattle.ix_cluster.specs.declared.fact.Fact.TheVariants.{Called, Desc, Claim}
 use Rattle.ix_cluster.specs.contracts.fact.FactPartialEq.TheImpl.{eq-value}
@@ -269,7 +270,7 @@ add-zero n = omega arith
 
 module _ (facts : List Fact) (marks : List Bool) (places : List Place) (fact_room mark_room place_room unclaimed free : ℕ) (is : IsLog facts marks places fact_room mark_room place_room unclaimed free) where
   -- more room is no harm
-  pub IsLog-room : (fact_room' mark_room' place_room' free' : ℕ) → free' ≤ fact_room' → free' ≤ mark_room' → unclaimed + free' ≤ place_room' → length facts + free' ≤ 2 ^ 32 → length (log_of facts places) + unclaimed + free' < 2 ^ 57 → IsLog facts marks places fact_room' mark_room' place_room' unclaimed free'
+  pub IsLog-room : (fact_room' mark_room' place_room' free' : ℕ) → free' ≤ fact_room' → free' ≤ mark_room' → unclaimed + free' ≤ place_room' → length facts + free' ≤ 2 ^ 32 → length (log_of facts places) + unclaimed + free' < FACT_LIMIT → IsLog facts marks places fact_room' mark_room' place_room' unclaimed free'
   IsLog-room fact_room' mark_room' place_room' free' f m r n s = record {
     are_marked = is.are_marked;
     room = record { counted = is.room.counted; room = r; small = s };
@@ -321,5 +322,5 @@ module _ (facts : List Fact) (marks : List Bool) (places : List Place) (fact_roo
         subst (λ u. IsLog facts' marks' places' fact_room' mark_room' place_room' u (free - 2)) (add-zero unclaimed)
         (IsLog-put fact_room' mark_room' place_room' 0 fr mr pr two (omega arith) (omega (arith, unclaimed-put_other (log_of facts places) f other)))
 
-  pub IsLog-bounded : length (log_of facts places) + unclaimed_in (log_of facts places) < 2 ^ 57
+  pub IsLog-bounded : length (log_of facts places) + unclaimed_in (log_of facts places) < FACT_LIMIT
   IsLog-bounded = omega (arith, is.room.counted, is.room.small)

@@ -13,6 +13,7 @@ use Rattle.ix_model.specs.Expansion.SlotPlaces.{IsFirstSlot, IsLastSlot}
 use Rattle.ix_model.specs.Closure.Closed as closed
 use Rattle.ix_model.proofs.Numbers.{get_split}
 use Rattle.ix_model.proofs.SlotReaders.{first_reads}
+use Rattle.ix_cluster.specs.declared.limits.TheConstants.{FACT_LIMIT}
 use Rattle.ix_cluster.specs.declared.cluster.Edge.{Edge as Arc}
 use Rattle.ix_cluster.specs.declared.fact.Fact.{Fact}
 use Rattle.ix_cluster.specs.declared.fact.Fact.TheVariants.{Called, Edge, End, Desc, Part, Claim}
@@ -202,7 +203,7 @@ module _ (plan : Parts) (count m : ℕ) where
   good_of : (bank : Bank) → IsSoundBank plan count m bank → IsGood plan count m bank.log
   good_of bank sound = record { once = sound.once; at_home = sound.at_home; true_facts = sound.true_facts }
 
-  sound_from : (old new : Bank) → IsSoundBank plan count m old → IsGood plan count m new.log → HasCompanions plan new.log → ((f : Fact) → Contains old.log f → Contains new.log f) → new.handed ≡ pair_count new.log → length new.log + unclaimed_in new.log < 2 ^ 57 → IsSoundBank plan count m new
+  sound_from : (old new : Bank) → IsSoundBank plan count m old → IsGood plan count m new.log → HasCompanions plan new.log → ((f : Fact) → Contains old.log f → Contains new.log f) → new.handed ≡ pair_count new.log → length new.log + unclaimed_in new.log < FACT_LIMIT → IsSoundBank plan count m new
   sound_from old new sound good companions keeps handed bounded = record {
     once = good.once;
     at_home = good.at_home;
@@ -240,7 +241,7 @@ module _ (plan : Parts) (count m : ℕ) where
         by false = h
         by true = put-keeps log (Claim s l p) f h
 
-  pub sound-claim : (old new : Bank) (s l p : ℕ) → new.log ≡ after_claim old.log s l p → new.handed ≡ old.handed → length new.log + unclaimed_in new.log < 2 ^ 57 → IsSoundBank plan count m old → IsSoundBank plan count m new
+  pub sound-claim : (old new : Bank) (s l p : ℕ) → new.log ≡ after_claim old.log s l p → new.handed ≡ old.handed → length new.log + unclaimed_in new.log < FACT_LIMIT → IsSoundBank plan count m old → IsSoundBank plan count m new
   sound-claim old new s l p e h bounded sound =
       sound_from old new sound
       (subst (IsGood plan count m) (sym e) (claim-good old.log s l p (good_of old sound)))
@@ -250,7 +251,7 @@ module _ (plan : Parts) (count m : ℕ) where
       bounded
 
   -- an arrival
-  pub sound-arrival : (old new : Bank) (sub : Sub) → new.log ≡ after_arrival old.log sub → new.handed ≡ old.handed → length new.log + unclaimed_in new.log < 2 ^ 57 → home (info_at plan sub.slot).head sub.left count ≡ m → closed.Part plan sub.slot sub.left sub.pivot sub.right → IsSoundBank plan count m old → IsSoundBank plan count m new
+  pub sound-arrival : (old new : Bank) (sub : Sub) → new.log ≡ after_arrival old.log sub → new.handed ≡ old.handed → length new.log + unclaimed_in new.log < FACT_LIMIT → home (info_at plan sub.slot).head sub.left count ≡ m → closed.Part plan sub.slot sub.left sub.pivot sub.right → IsSoundBank plan count m old → IsSoundBank plan count m new
   sound-arrival old new sub e h bounded here part sound =
       sound_from old new sound
       (subst (IsGood plan count m) (sym e) (good-put plan count m (put old.log (Part sub)) (Desc sub.slot sub.left sub.right) desc (good-put plan count m old.log (Part sub) itself (good_of old sound))))
@@ -273,7 +274,7 @@ module _ (plan : Parts) (count m : ℕ) where
       by (inl w) = let none : edges ≡ [] = a ∙ ap (λ b. cond b [] (edges_in log (cluster r k))) w in omega (arith, h, ap length none, ap pair_count (put-old log (End r k e) w))
       by (inr w) = let all : edges ≡ edges_in log (cluster r k) = a ∙ ap (λ b. cond b [] (edges_in log (cluster r k))) w in handed-after_end log (put log (End r k e)) r k e handed (length edges) w refl h (ap length all)
 
-  pub sound-end : (old new : Bank) (r k e : ℕ) (edges : List Arc) → new.log ≡ put old.log (End r k e) → edges ≡ end_answer old.log r k e → new.handed ≡ old.handed + length edges → length new.log + unclaimed_in new.log < 2 ^ 57 → home r k count ≡ m → closed.End plan r k e → IsSoundBank plan count m old → IsSoundBank plan count m new
+  pub sound-end : (old new : Bank) (r k e : ℕ) (edges : List Arc) → new.log ≡ put old.log (End r k e) → edges ≡ end_answer old.log r k e → new.handed ≡ old.handed + length edges → length new.log + unclaimed_in new.log < FACT_LIMIT → home r k count ≡ m → closed.End plan r k e → IsSoundBank plan count m old → IsSoundBank plan count m new
   sound-end old new r k e edges w a h bounded here end sound =
       sound_from old new sound
       (subst (IsGood plan count m) (sym w) (good-put plan count m old.log (End r k e) (record { at_home = here; closed = end; later = λ s l p z. absurd (cc z) }) (good_of old sound)))
@@ -295,7 +296,7 @@ module _ (plan : Parts) (count m : ℕ) where
           handed-after_edge plan log (put (after_call plan log r k) (Edge r k s l)) r k s l handed (length ends) w refl h (ap length all) ∙
           sym (ap (λ b. pair_count (cond b log (put (after_call plan log r k) (Edge r k s l)))) w)
 
-  pub sound-edge : IsPlanned plan → (old new : Bank) (r k s l : ℕ) (ends : List ℕ) → r < length plan.rules.flats → new.log ≡ after_edge plan old.log r k s l → ends ≡ edge_answer old.log r k s l → new.handed ≡ old.handed + length ends → length new.log + unclaimed_in new.log < 2 ^ 57 → home r k count ≡ m → closed.Edge plan r k s l → IsSoundBank plan count m old → IsSoundBank plan count m new
+  pub sound-edge : IsPlanned plan → (old new : Bank) (r k s l : ℕ) (ends : List ℕ) → r < length plan.rules.flats → new.log ≡ after_edge plan old.log r k s l → ends ≡ edge_answer old.log r k s l → new.handed ≡ old.handed + length ends → length new.log + unclaimed_in new.log < FACT_LIMIT → home r k count ≡ m → closed.Edge plan r k s l → IsSoundBank plan count m old → IsSoundBank plan count m new
   sound-edge planned old new r k s l ends there w a h bounded here edge sound =
       sound_from old new sound
       (subst (IsGood plan count m) (sym w) good)
@@ -365,7 +366,7 @@ module _ (plan : Parts) (count m : ℕ) where
   }
 
   -- a bank in which the first rule is called
-  pub sound-begin : IsPlanned plan → home 0 0 count ≡ m → length (after_call plan [] 0 0) + unclaimed_in (after_call plan [] 0 0) < 2 ^ 57 → IsSoundBank plan count m (record { log = after_call plan [] 0 0; handed = 0 })
+  pub sound-begin : IsPlanned plan → home 0 0 count ≡ m → length (after_call plan [] 0 0) + unclaimed_in (after_call plan [] 0 0) < FACT_LIMIT → IsSoundBank plan count m (record { log = after_call plan [] 0 0; handed = 0 })
   sound-begin planned here bounded =
       let there : 0 < length plan.rules.flats = omega (arith, planned.first_named, planned.names_within) in
       let good = good-call plan count m planned 0 0 here closed.start [] there good-nothing in

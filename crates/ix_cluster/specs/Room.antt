@@ -1,5 +1,6 @@
 -- The room that a log keeps for claims to come. It is this project's own.
 use Rattle.std.specs.Prelude.{ℕ, ◌+◌, ◌≤◌, ◌<◌, ◌^◌, Bool, false, not, List, length, count_by}
+use Rattle.ix_cluster.specs.declared.limits.TheConstants.{FACT_LIMIT}
 use Rattle.ix_cluster.specs.declared.fact.Fact.{Fact}
 use Rattle.ix_cluster.specs.declared.fact.Fact.TheVariants.{Desc, Claim}
 use Rattle.ix_cluster.specs.Facts.{has}
@@ -18,4 +19,4 @@ pub record HasRoom (facts : List Fact) (spare unclaimed free : ℕ) : Type 0 whe
   -- no more descriptors wait than were counted
   pub counted : unclaimed_in facts ≤ unclaimed
   pub room : unclaimed + free ≤ spare
-  pub small : length facts + unclaimed + free < 2 ^ 57
+  pub small : length facts + unclaimed + free < FACT_LIMIT

@@ -1,5 +1,6 @@
 use Rattle.std.proofs.Common.{◌≡◌, ◌^◌, ◌+◌, ◌<◌, ◌≤◌, ℕ, Bool, true, false, cond, List, [], ◌∷◌, ◌++◌, length, length-append, replicate, refl, arith}
 use Rattle.std.proofs.lemmas.List.{length-replicate}
+use Rattle.ix_cluster.specs.declared.limits.TheConstants.{FACT_LIMIT}
 use Rattle.ix_cluster.specs.declared.fact.Fact.{Fact}
 use Rattle.ix_cluster.specs.declared.fact.Fact.TheVariants.{Called, End}
 use Rattle.ix_cluster.specs.Facts.{has, put}
@@ -15,4 +16,4 @@ too_long n log f long few = omega (arith, long, few, by (has log f))
     by false = omega (arith, length-append log (f ∷ []))
 
 pub returns-clause-long : goal.returns-clause-long
-returns-clause-long c = λ h. too_long (2 ^ 57) (replicate (2 ^ 57) (Called 0 0)) (End 0 0 0) (length-replicate (2 ^ 57) (Called 0 0)) (h (record { log = replicate (2 ^ 57) (Called 0 0); handed = 0 }) refl)
+returns-clause-long c = λ h. too_long FACT_LIMIT (replicate FACT_LIMIT (Called 0 0)) (End 0 0 0) (length-replicate FACT_LIMIT (Called 0 0)) (h (record { log = replicate FACT_LIMIT (Called 0 0); handed = 0 }) refl)
