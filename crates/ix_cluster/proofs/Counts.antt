@@ -1,5 +1,7 @@
 -- how many descriptors wait for a claim, as facts are recorded
 use Rattle.std.proofs.Common.{◌≡◌, ℕ, ◌+◌, ◌-◌, ◌≤◌, Bool, true, false, not, cond, ◌||◌, List, [], ◌∷◌, ◌++◌, length, length-append, count_by, refl, sym, ap, ◌∙◌, arith, subst, true≢false, ◌⊎◌, inl, inr}
+use Rattle.std.proofs.lemmas.Bool.{cases_Bool, or_left}
+use Rattle.std.proofs.lemmas.List.Folds.{list_any-append}
 use Rattle.std.proofs.lemmas.List.Sums.{count_by-le-length}
 use Rattle.ix_cluster.specs.declared.fact.Fact.{Fact}
 use Rattle.ix_cluster.specs.declared.fact.Fact.TheVariants.{Called, Edge, End, Desc, Part, Claim}
@@ -8,25 +10,16 @@ use Rattle.ix_cluster.specs.Room.{is_unclaimed, unclaimed_in, HasRoom}
 use Rattle.ix_cluster.proofs.CountBy.{count_cons, count_append, count_push, count_le}
 use Rattle.ix_cluster.proofs.FactLemmas.{same_fact-true, same_fact-refl}
 
--- either value of a test
-pub either : (b : Bool) → (b ≡ true) ⊎ (b ≡ false)
-either true = inl refl
-either false = inr refl
-
-pub has-append : (xs ys : List Fact) (f : Fact) → has (xs ++ ys) f ≡ (has xs f || has ys f)
-has-append [] ys f = refl
-has-append (x ∷ xs) ys f = grind (arith, has-append xs ys f)
-
 pub has-push_old : (xs : List Fact) (g f : Fact) → has xs f ≡ true → has (xs ++ g ∷ []) f ≡ true
-has-push_old xs g f h = grind (arith, has-append xs (g ∷ []) f)
+has-push_old xs g f h = list_any-append (same_fact f) xs (g ∷ []) ∙ or_left (has xs f) (has (g ∷ []) f) h
 
 pub has-push_new : (xs : List Fact) (f : Fact) → has (xs ++ f ∷ []) f ≡ true
-has-push_new xs f = grind (arith, has-append xs (f ∷ []) f, same_fact-refl f)
+has-push_new xs f = grind (arith, list_any-append (same_fact f) xs (f ∷ []), same_fact-refl f)
 
 -- a test that passes no more than another counts fewer where the other passes a member that it does not
 pub count-lt : (p q : Fact → Bool) → ((x : Fact) → q x ≡ true → p x ≡ true) → (y : Fact) → p y ≡ true → q y ≡ false → (xs : List Fact) → has xs y ≡ true → count_by q xs + 1 ≤ count_by p xs
 count-lt p q h y py qy [] m = absurd (true≢false (sym m))
-count-lt p q h y py qy (x ∷ xs) m = by (either (same_fact y x)) (count-lt p q h y py qy xs)
+count-lt p q h y py qy (x ∷ xs) m = by (cases_Bool (same_fact y x)) (count-lt p q h y py qy xs)
   where
     by : (same_fact y x ≡ true) ⊎ (same_fact y x ≡ false) → (has xs y ≡ true → count_by q xs + 1 ≤ count_by p xs) → count_by q (x ∷ xs) + 1 ≤ count_by p (x ∷ xs)
     by (inl e) rest =
@@ -92,14 +85,14 @@ module _ (log now : List Fact) (f : Fact) (added : Bool) (same : now ≡ log) (s
       by false h = refl
 
 pub length-put : (log : List Fact) (f : Fact) → length (put log f) ≤ length log + 1
-length-put log f = by (either (has log f))
+length-put log f = by (cases_Bool (has log f))
   where
     by : (has log f ≡ true) ⊎ (has log f ≡ false) → length (put log f) ≤ length log + 1
     by (inl e) = rw (put-old log f e) (omega arith)
     by (inr e) = rw (put-new log f e) (omega (arith, length-append log (f ∷ [])))
 
 pub unclaimed-put : (log : List Fact) (f : Fact) → unclaimed_in (put log f) ≤ unclaimed_in log + 1
-unclaimed-put log f = by (either (has log f))
+unclaimed-put log f = by (cases_Bool (has log f))
   where
     by : (has log f ≡ true) ⊎ (has log f ≡ false) → unclaimed_in (put log f) ≤ unclaimed_in log + 1
     by (inl e) = rw (put-old log f e) (omega arith)
@@ -110,7 +103,7 @@ unclaimed-put_claim log s l p d c = rw (put-new log (Claim s l p) c) (unclaimed-
 
 -- and none more where it is no descriptor
 pub unclaimed-put_other : (log : List Fact) (f : Fact) → ((l : List Fact) → is_unclaimed l f ≡ false) → unclaimed_in (put log f) ≤ unclaimed_in log
-unclaimed-put_other log f h = by (either (has log f))
+unclaimed-put_other log f h = by (cases_Bool (has log f))
   where
     by : (has log f ≡ true) ⊎ (has log f ≡ false) → unclaimed_in (put log f) ≤ unclaimed_in log
     by (inl e) = rw (put-old log f e) (omega arith)
@@ -118,7 +111,7 @@ unclaimed-put_other log f h = by (either (has log f))
 
 -- one more where it is new
 pub unclaimed-put_new : (log : List Fact) (f : Fact) → unclaimed_in (put log f) ≤ unclaimed_in log + cond (not (has log f)) 1 0
-unclaimed-put_new log f = by (either (has log f))
+unclaimed-put_new log f = by (cases_Bool (has log f))
   where
     by : (has log f ≡ true) ⊎ (has log f ≡ false) → unclaimed_in (put log f) ≤ unclaimed_in log + cond (not (has log f)) 1 0
     by (inl e) = rw (put-old log f e) (omega arith)

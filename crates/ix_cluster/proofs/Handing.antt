@@ -1,5 +1,6 @@
 -- the pairs that were handed out, as facts are recorded
 use Rattle.std.proofs.Common.{◌≡◌, ℕ, ◌+◌, ◌*◌, ◌^◌, ◌≤◌, ◌<◌, Bool, true, false, cond, List, [], ◌∷◌, ◌++◌, length, count_by, Some, None, refl, sym, ap, ◌∙◌, arith, ◌⊎◌, inl, inr}
+use Rattle.std.proofs.lemmas.Bool.{cases_Bool}
 use Rattle.std.specs.List.{cons_option}
 use Rattle.std.proofs.lemmas.List.Sums.{count_by-le-length}
 use Rattle.std.proofs.Math.Nat.{mul-le-mul}
@@ -15,8 +16,8 @@ use Rattle.ix_cluster.specs.Firsts.{is_at_end, firsts_of}
 use Rattle.ix_cluster.specs.Steps.{empty_sub, end_of, edges_in, ends_in, after_first, after_firsts, after_call, after_claim, after_arrival}
 use Rattle.ix_cluster.specs.Handed.{meets, pair_count}
 use Rattle.ix_cluster.proofs.CountBy.{count_cons, count_push, count_none}
-use Rattle.ix_cluster.proofs.Counts.{either, put-old, put-new}
-use Rattle.ix_cluster.proofs.ListLemmas.{same_cluster-symm}
+use Rattle.ix_cluster.proofs.Counts.{put-old, put-new}
+use Rattle.ix_cluster.proofs.ListLemmas.{same_cluster-equivalence}
 use Rattle.ix_cluster.proofs.Listing.{kept-call, has-call_edge}
 
 pub handed-push : (log : List Fact) (f : Fact) → pair_count (log ++ f ∷ []) ≡ pair_count log + count_by (λ g. meets g f) log
@@ -25,7 +26,7 @@ handed-push (g ∷ log) f = omega (arith, handed-push log f, count_push (meets g
 
 -- a fact that meets none hands out nothing
 pub handed-put_other : (log : List Fact) (f : Fact) → ((g : Fact) → meets g f ≡ false) → pair_count (put log f) ≡ pair_count log
-handed-put_other log f none = by (either (has log f))
+handed-put_other log f none = by (cases_Bool (has log f))
   where
     by : (has log f ≡ true) ⊎ (has log f ≡ false) → pair_count (put log f) ≡ pair_count log
     by (inl e) = ap pair_count (put-old log f e)
@@ -53,8 +54,8 @@ claim-none s l p g = refl
 
 -- two facts meet, whichever comes first
 pub meets-symm : (f g : Fact) → meets f g ≡ meets g f
-meets-symm (Edge r k s l) (End r' k' e) = same_cluster-symm (cluster r k) (cluster r' k')
-meets-symm (End r k e) (Edge r' k' s l) = same_cluster-symm (cluster r k) (cluster r' k')
+meets-symm (Edge r k s l) (End r' k' e) = same_cluster-equivalence.symm (cluster r k) (cluster r' k')
+meets-symm (End r k e) (Edge r' k' s l) = same_cluster-equivalence.symm (cluster r k) (cluster r' k')
 meets-symm (Edge r k s l) g = refl
 meets-symm (End r k e) g = refl
 meets-symm (Called r k) g = sym (called-none r k g)

@@ -6,6 +6,7 @@ pub mod Consistency
 pub mod CountBy
 pub mod Counts
 pub mod Elements
+pub mod Equivalences
 pub mod FactLemmas
 pub mod Furthest
 pub mod Handing

@@ -1,8 +1,10 @@
 -- the edges and ends of a log, as facts are recorded
 use Rattle.std.proofs.Common.{◌≡◌, ℕ, Bool, true, false, cond, List, [], ◌∷◌, ◌++◌, Option, Some, None, refl, sym, ap, ◌∙◌, arith, ◌⊎◌, inl, inr}
+use Rattle.std.proofs.lemmas.Bool.{cases_Bool}
 use Rattle.std.specs.List.{filter_map, cons_option}
 use Rattle.std.specs.declared.vec.Vec.{Vec}
 use Rattle.std.proofs.lemmas.List.{append-nil}
+use Rattle.std.proofs.lemmas.List.Folds.{list_any-append}
 use Rattle.std.proofs.lemmas.List.Elements.{filter_map-append}
 use Rattle.indexmap.specs.IndexMap.{IndexMap}
 use Rattle.ix_model.specs.Expansion.Parts.{Parts}
@@ -16,11 +18,11 @@ use Rattle.ix_cluster.specs.Firsts.{is_at_end, firsts_of}
 use Rattle.ix_cluster.specs.Lists.{cluster, same_cluster, list_at, PushesAt}
 use Rattle.ix_cluster.specs.Listed.{AreListed}
 use Rattle.ix_cluster.specs.Steps.{empty_sub, edge_of, end_of, edges_in, ends_in, after_first, after_firsts, after_call, after_claim, after_arrival}
-use Rattle.ix_cluster.proofs.Counts.{either, put-old, put-new, has-append}
+use Rattle.ix_cluster.proofs.Counts.{put-old, put-new}
 
 module _ {X : Type 0} (g : Fact → Option X) where
   pub kept-put : (log : List Fact) (f : Fact) → g f ≡ None → filter_map g (put log f) ≡ filter_map g log
-  kept-put log f none = by (either (has log f))
+  kept-put log f none = by (cases_Bool (has log f))
     where
       by : (has log f ≡ true) ⊎ (has log f ≡ false) → filter_map g (put log f) ≡ filter_map g log
       by (inl e) = ap (filter_map g) (put-old log f e)
@@ -99,11 +101,11 @@ module _ {A B S T : Type 0} (log : List Fact) (edges : IndexMap Cluster (Vec Arc
 
 -- a log has another fact as before
 pub has-put_other : (log : List Fact) (f g : Fact) → same_fact g f ≡ false → has (put log f) g ≡ has log g
-has-put_other log f g apart = by (either (has log f))
+has-put_other log f g apart = by (cases_Bool (has log f))
   where
     by : (has log f ≡ true) ⊎ (has log f ≡ false) → has (put log f) g ≡ has log g
     by (inl e) = ap (λ l. has l g) (put-old log f e)
-    by (inr e) = ap (λ l. has l g) (put-new log f e) ∙ grind (arith, has-append log (f ∷ []) g)
+    by (inr e) = ap (λ l. has l g) (put-new log f e) ∙ grind (arith, list_any-append (same_fact g) log (f ∷ []))
 
 -- entering alternatives records no edge
 module _ (r' k' s' l' : ℕ) where

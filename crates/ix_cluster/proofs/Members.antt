@@ -1,12 +1,14 @@
 -- What a list has, and what a log has after a fact is put into it.
 use Rattle.std.proofs.Common.{◌≡◌, zero, suc, Bool, true, false, cond, List, [], ◌∷◌, ◌++◌, Contains, refl, sym, ap, ◌∙◌, arith, subst, ◌⊎◌, inl, inr, true≢false}
+use Rattle.std.proofs.lemmas.Bool.{cases_Bool}
 use Rattle.std.specs.Cmp.{IsEquivalence}
 use Rattle.std.proofs.lemmas.List.Elements.{Contains-append_left, Contains-append_right, Contains-append_cases, Contains-push, Contains-push_cases}
 use Rattle.std.proofs.lemmas.Map.Views.{list_any-from_Contains, Contains-from_any}
 use Rattle.ix_cluster.specs.declared.fact.Fact.{Fact}
 use Rattle.ix_cluster.specs.Facts.{same_fact, has, put}
 use Rattle.ix_cluster.proofs.FactLemmas.{same_fact-true, same_fact-refl}
-use Rattle.ix_cluster.proofs.Counts.{either, put-new}
+use Rattle.ix_cluster.proofs.Equivalences.{equivalence}
+use Rattle.ix_cluster.proofs.Counts.{put-new}
 
 module _ {X : Type 0} where
   -- a list of one has that one alone
@@ -30,26 +32,8 @@ module _ {X : Type 0} where
   pub none_has : (x : X) → Contains [] x → ⊥
   none_has x h = omega (arith, h.1)
 
-same_fact-false : (a b : Fact) → same_fact a b ≡ false → same_fact b a ≡ false
-same_fact-false a b e = by (either (same_fact b a))
-  where
-    by : (same_fact b a ≡ true) ⊎ (same_fact b a ≡ false) → same_fact b a ≡ false
-    by (inl t) = absurd (true≢false (sym (same_fact-refl a) ∙ subst (λ z. same_fact a z ≡ false) (same_fact-true b a t) e))
-    by (inr f) = f
-
-same_fact-symm : (a b : Fact) → same_fact a b ≡ same_fact b a
-same_fact-symm a b = by (either (same_fact a b))
-  where
-    by : (same_fact a b ≡ true) ⊎ (same_fact a b ≡ false) → same_fact a b ≡ same_fact b a
-    by (inl t) = subst (λ z. same_fact a z ≡ same_fact z a) (same_fact-true a b t) refl
-    by (inr f) = f ∙ sym (same_fact-false a b f)
-
 pub same_fact-equivalence : IsEquivalence same_fact
-same_fact-equivalence = record {
-  refl = same_fact-refl;
-  symm = same_fact-symm;
-  congr = λ x y z e. ap (λ w. same_fact w z) (same_fact-true x y e);
-}
+same_fact-equivalence = equivalence same_fact same_fact-true same_fact-refl
 
 -- the test of a log finds what it has
 pub has-Contains : (log : List Fact) (f : Fact) → Contains log f → has log f ≡ true
@@ -66,7 +50,7 @@ put-keeps log f g h = by (has log f)
     by false = Contains-append_left log (f ∷ []) g h
 
 pub put-there : (log : List Fact) (f : Fact) → Contains (put log f) f
-put-there log f = by (either (has log f))
+put-there log f = by (cases_Bool (has log f))
   where
     by : (has log f ≡ true) ⊎ (has log f ≡ false) → Contains (put log f) f
     by (inl e) = put-keeps log f f (Contains-has log f e)

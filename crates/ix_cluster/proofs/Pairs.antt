@@ -1,5 +1,6 @@
 -- The pairs of a log, cluster by cluster.
 use Rattle.std.proofs.Common.{◌≡◌, ℕ, suc, ◌+◌, ◌*◌, Bool, true, false, cond, List, [], ◌∷◌, length, count_by, Contains, Some, None, refl, sym, ap, ◌∙◌, arith, subst, true≢false, ◌⊎◌, inl, inr}
+use Rattle.std.proofs.lemmas.Bool.{cases_Bool}
 use Rattle.std.specs.List.{cons_option, sum_by, IsDistinct, AllByRecursion}
 use Rattle.std.proofs.lemmas.List.Sums.{sum_by-cons}
 use Rattle.std.proofs.lemmas.Map.Keys.{IsDistinct-head, IsDistinct-tail}
@@ -11,7 +12,6 @@ use Rattle.ix_cluster.specs.Laws.{edges_times_ends, PairsAreByCluster}
 use Rattle.ix_cluster.specs.Lists.{cluster, same_cluster}
 use Rattle.ix_cluster.specs.Steps.{edges_in, ends_in}
 use Rattle.ix_cluster.proofs.CountBy.{count_none}
-use Rattle.ix_cluster.proofs.Counts.{either}
 use Rattle.ix_cluster.proofs.Handing.{ends-met, edges-met, meets-symm}
 use Rattle.ix_cluster.proofs.ListLemmas.{same_cluster-true, same_cluster-refl}
 use Rattle.ix_cluster.proofs.Members.{first_has, rest_has, either_has, none_has}
@@ -26,7 +26,7 @@ module _ (f g : Cluster → ℕ) (c : Cluster) (apart : (d : Cluster) → same_c
   -- what one cluster has more, the sum has more
   sum-more : (n : ℕ) → g c ≡ f c + n → (ds : List Cluster) → IsDistinct same_cluster ds → Contains ds c → sum_by g ds ≡ sum_by f ds + n
   sum-more n more [] once here = absurd (none_has c here)
-  sum-more n more (d ∷ ds) once here = by (either (same_cluster c d)) (sum-more n more ds (IsDistinct-tail same_cluster d ds once))
+  sum-more n more (d ∷ ds) once here = by (cases_Bool (same_cluster c d)) (sum-more n more ds (IsDistinct-tail same_cluster d ds once))
     where
       by : (same_cluster c d ≡ true) ⊎ (same_cluster c d ≡ false) → (Contains ds c → sum_by g ds ≡ sum_by f ds + n) → sum_by g (d ∷ ds) ≡ sum_by f (d ∷ ds) + n
       by (inl e) rest =

@@ -1,6 +1,6 @@
 -- What a log has after a step, and what is recorded then.
 use Rattle.std.proofs.Common.{◌≡◌, Bool, true, false, cond, List, Contains, sym, ◌∙◌, subst, ◌⊎◌, inl, inr, true≢false}
-use Rattle.std.proofs.lemmas.Bool.{false_from_ne_true}
+use Rattle.std.proofs.lemmas.Bool.{cases_Bool, false_from_ne_true}
 use Rattle.ix_model.specs.Expansion.Parts.{Parts}
 use Rattle.ix_cluster.specs.declared.fact.Fact.{Fact}
 use Rattle.ix_cluster.specs.declared.fact.Fact.TheVariants as fact
@@ -8,7 +8,6 @@ use Rattle.ix_cluster.specs.Facts.{has, put}
 use Rattle.ix_cluster.specs.Firsts.{firsts_of}
 use Rattle.ix_cluster.specs.Steps.{after_call}
 use Rattle.ix_cluster.proofs.Calls.{IsBegun, call-from, call-keeps}
-use Rattle.ix_cluster.proofs.Counts.{either}
 use Rattle.ix_cluster.proofs.Members.{put-keeps, put-from, has-Contains, Contains-has}
 use Rattle.ix_closure.specs.declared.owed.Owed.{Owed}
 use Rattle.ix_closure.specs.declared.owed.Owed.TheVariants.{Claim, Edge, End, Arrive}
@@ -83,7 +82,7 @@ log_from plan log (Edge r k s l) f h = by (has log (fact.Edge r k s l)) h
 log_from plan log (End r k e) f h = elim (put-from log (fact.End r k e) f h) [ inl o ↦ inl o | inr w ↦ inr (inl w) ]
 log_from plan log (Arrive sub) f h = elim (put-from (put log (fact.Part sub)) (fact.Desc sub.slot sub.left sub.right) f h) [
   | inl o ↦ elim (put-from log (fact.Part sub) f o) [ inl w ↦ inl w | inr e ↦ inr (inl e) ]
-  | inr e ↦ elim (either (has log (fact.Desc sub.slot sub.left sub.right))) [
+  | inr e ↦ elim (cases_Bool (has log (fact.Desc sub.slot sub.left sub.right))) [
     | inl old ↦ inl (subst (Contains log) e (Contains-has log (fact.Desc sub.slot sub.left sub.right) old))
     | inr fresh ↦ inr (inr (fresh, e))
   ]

@@ -1,5 +1,6 @@
 -- A claim keeps a state tidy.
 use Rattle.std.proofs.Common.{◌≡◌, ℕ, ◌+◌, ◌≤◌, Bool, true, false, cond, List, [], ◌∷◌, ◌++◌, count_by, Contains, refl, sym, ap, ◌∙◌, subst, ◌⊎◌, inl, inr, arith}
+use Rattle.std.proofs.lemmas.Bool.{cases_Bool}
 use Rattle.std.proofs.lemmas.Bool.Decides.{nat_tests}
 use Rattle.ix_model.specs.Closure.Useful.{sub_at}
 use Rattle.ix_model.specs.declared.rules.Sym.TheVariants as sy
@@ -13,7 +14,7 @@ use Rattle.ix_cluster.specs.Banks.{facts_of}
 use Rattle.ix_cluster.specs.Facts.{has, put}
 use Rattle.ix_cluster.proofs.CountBy.{count_append}
 use Rattle.ix_cluster.proofs.Beginning.{at_end_of}
-use Rattle.ix_cluster.proofs.Counts.{either, put-new}
+use Rattle.ix_cluster.proofs.Counts.{put-new}
 use Rattle.ix_cluster.proofs.Members.{one_has, none_has, has-Contains}
 use Rattle.ix_closure.specs.declared.owed.Owed.{Owed}
 use Rattle.ix_closure.specs.declared.owed.Owed.TheVariants.{Claim, Edge, End, Arrive}
@@ -76,7 +77,7 @@ module _ (plan : Parts) (planned : IsPlanned plan) (old new : State) (n : ℕ) (
   given steps (stops t shown after next none) r k e = omega arith
   given steps (inserts m after next) r k e = omega arith
   given steps (calls r' after mark next) r k e = omega arith
-  given steps (ends r' last) r k e = by (either (same_step (End r k e) (End r' l p)))
+  given steps (ends r' last) r k e = by (cases_Bool (same_step (End r k e) (End r' l p)))
     where
       own : gives plan r' l p (fact.Claim s l p) ≡ true
       own = grind (arith, nat_tests, at_end_of plan planned r' s last, (last_reads plan s r' last).1)
