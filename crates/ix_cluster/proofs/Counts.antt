@@ -9,6 +9,7 @@ use Rattle.ix_cluster.specs.Facts.{same_fact, has, put}
 use Rattle.ix_cluster.specs.Room.{is_unclaimed, unclaimed_in, HasRoom}
 use Rattle.ix_cluster.proofs.CountBy.{count_cons, count_append, count_push, count_le}
 use Rattle.ix_cluster.proofs.FactLemmas.{same_fact-true, same_fact-refl}
+use Rattle.ix_cluster.proofs.Recording.{put_both}
 
 pub has-push_old : (xs : List Fact) (g f : Fact) → has xs f ≡ true → has (xs ++ g ∷ []) f ≡ true
 has-push_old xs g f h = list_any-append (same_fact f) xs (g ∷ []) ∙ or_left (has xs f) (has (g ∷ []) f) h
@@ -85,37 +86,23 @@ module _ (log now : List Fact) (f : Fact) (added : Bool) (same : now ≡ log) (s
       by false h = refl
 
 pub length-put : (log : List Fact) (f : Fact) → length (put log f) ≤ length log + 1
-length-put log f = by (cases_Bool (has log f))
-  where
-    by : (has log f ≡ true) ⊎ (has log f ≡ false) → length (put log f) ≤ length log + 1
-    by (inl e) = rw (put-old log f e) (omega arith)
-    by (inr e) = rw (put-new log f e) (omega (arith, length-append log (f ∷ [])))
+length-put log f = put_both (λ new. length new ≤ length log + 1) log f (λ _. omega arith) (λ _. omega (arith, length-append log (f ∷ [])))
 
 pub unclaimed-put : (log : List Fact) (f : Fact) → unclaimed_in (put log f) ≤ unclaimed_in log + 1
-unclaimed-put log f = by (cases_Bool (has log f))
-  where
-    by : (has log f ≡ true) ⊎ (has log f ≡ false) → unclaimed_in (put log f) ≤ unclaimed_in log + 1
-    by (inl e) = rw (put-old log f e) (omega arith)
-    by (inr e) = rw (put-new log f e) (unclaimed-push log f)
+unclaimed-put log f = put_both (λ new. unclaimed_in new ≤ unclaimed_in log + 1) log f (λ _. omega arith) (λ _. unclaimed-push log f)
 
 pub unclaimed-put_claim : (log : List Fact) (s l p : ℕ) → has log (Desc s l p) ≡ true → has log (Claim s l p) ≡ false → unclaimed_in (put log (Claim s l p)) + 1 ≤ unclaimed_in log
 unclaimed-put_claim log s l p d c = rw (put-new log (Claim s l p) c) (unclaimed-claim log s l p d c)
 
 -- and none more where it is no descriptor
 pub unclaimed-put_other : (log : List Fact) (f : Fact) → ((l : List Fact) → is_unclaimed l f ≡ false) → unclaimed_in (put log f) ≤ unclaimed_in log
-unclaimed-put_other log f h = by (cases_Bool (has log f))
-  where
-    by : (has log f ≡ true) ⊎ (has log f ≡ false) → unclaimed_in (put log f) ≤ unclaimed_in log
-    by (inl e) = rw (put-old log f e) (omega arith)
-    by (inr e) = rw (put-new log f e) (unclaimed-push_other log f h)
+unclaimed-put_other log f h = put_both (λ new. unclaimed_in new ≤ unclaimed_in log) log f (λ _. omega arith) (λ _. unclaimed-push_other log f h)
 
 -- one more where it is new
 pub unclaimed-put_new : (log : List Fact) (f : Fact) → unclaimed_in (put log f) ≤ unclaimed_in log + cond (not (has log f)) 1 0
-unclaimed-put_new log f = by (cases_Bool (has log f))
-  where
-    by : (has log f ≡ true) ⊎ (has log f ≡ false) → unclaimed_in (put log f) ≤ unclaimed_in log + cond (not (has log f)) 1 0
-    by (inl e) = rw (put-old log f e) (omega arith)
-    by (inr e) = let one : cond (not (has log f)) 1 0 ≡ 1 = ap {B = ℕ} (λ b. cond (not b) 1 0) e in omega (arith, unclaimed-put log f, one)
+unclaimed-put_new log f =
+    put_both (λ new. unclaimed_in new ≤ unclaimed_in log + cond (not (has log f)) 1 0) log f (λ _. omega arith)
+    (λ e. let one : cond (not (has log f)) 1 0 ≡ 1 = ap {B = ℕ} (λ b. cond (not b) 1 0) e in omega (arith, unclaimed-push log f, one))
 
 -- a log keeps its room where a fact is put into it, with one more claim to come at most
 pub HasRoom-put : (facts new : List Fact) (f : Fact) (spare spare' unclaimed free more : ℕ) → HasRoom facts spare unclaimed free → new ≡ put facts f → 2 ≤ free → spare ≤ spare' + 1 → more ≤ 1 → unclaimed_in (put facts f) ≤ unclaimed_in facts + more → HasRoom new spare' (unclaimed + more) (free - 2)

@@ -19,6 +19,7 @@ use Rattle.ix_cluster.proofs.CountBy.{count_cons, count_push, count_none}
 use Rattle.ix_cluster.proofs.Counts.{put-old, put-new}
 use Rattle.ix_cluster.proofs.ListLemmas.{same_cluster-equivalence}
 use Rattle.ix_cluster.proofs.Listing.{kept-call, has-call_edge}
+use Rattle.ix_cluster.proofs.Recording.{put_both, claim_both, same_after_call}
 
 pub handed-push : (log : List Fact) (f : Fact) → pair_count (log ++ f ∷ []) ≡ pair_count log + count_by (λ g. meets g f) log
 handed-push [] f = refl
@@ -26,11 +27,7 @@ handed-push (g ∷ log) f = omega (arith, handed-push log f, count_push (meets g
 
 -- a fact that meets none hands out nothing
 pub handed-put_other : (log : List Fact) (f : Fact) → ((g : Fact) → meets g f ≡ false) → pair_count (put log f) ≡ pair_count log
-handed-put_other log f none = by (cases_Bool (has log f))
-  where
-    by : (has log f ≡ true) ⊎ (has log f ≡ false) → pair_count (put log f) ≡ pair_count log
-    by (inl e) = ap pair_count (put-old log f e)
-    by (inr e) = ap pair_count (put-new log f e) ∙ omega (arith, handed-push log f, count_none (λ g. meets g f) log (λ g _. none g))
+handed-put_other log f none = put_both (λ new. pair_count new ≡ pair_count log) log f (λ _. refl) (λ _. omega (arith, handed-push log f, count_none (λ g. meets g f) log (λ g _. none g)))
 
 pub called-none : (r k : ℕ) (g : Fact) → meets g (Called r k) ≡ false
 called-none r k (Edge _ _ _ _) = refl
@@ -63,30 +60,12 @@ meets-symm (Desc s l p) g = sym (desc-none s l p g)
 meets-symm (Part sub) g = sym (part-none sub g)
 meets-symm (Claim s l p) g = sym (claim-none s l p g)
 
-handed-first : (plan : Parts) (k : ℕ) (log : List Fact) (s : ℕ) → pair_count (after_first plan k log s) ≡ pair_count log
-handed-first plan k log s = by (is_at_end plan s)
-  where
-    by : (b : Bool) → pair_count (cond b (put (put log (Desc s k k)) (Part (empty_sub s k))) (put log (Desc s k k))) ≡ pair_count log
-    by true = handed-put_other (put log (Desc s k k)) (Part (empty_sub s k)) (part-none _) ∙ handed-put_other log (Desc s k k) (desc-none s k k)
-    by false = handed-put_other log (Desc s k k) (desc-none s k k)
-
-handed-after_firsts : (plan : Parts) (k : ℕ) (firsts : List ℕ) (log : List Fact) → pair_count (after_firsts plan k firsts log) ≡ pair_count log
-handed-after_firsts plan k [] log = refl
-handed-after_firsts plan k (s ∷ ss) log = handed-after_firsts plan k ss (after_first plan k log s) ∙ handed-first plan k log s
-
 pub handed-call : (plan : Parts) (log : List Fact) (r k : ℕ) → pair_count (after_call plan log r k) ≡ pair_count log
-handed-call plan log r k = by (has log (Called r k))
-  where
-    by : (b : Bool) → pair_count (cond b log (after_firsts plan k (firsts_of plan r) (put log (Called r k)))) ≡ pair_count log
-    by true = refl
-    by false = handed-after_firsts plan k (firsts_of plan r) (put log (Called r k)) ∙ handed-put_other log (Called r k) (called-none r k)
+handed-call plan log r k =
+    same_after_call pair_count plan r k (λ l s. handed-put_other l (Desc s k k) (desc-none s k k)) (λ l s. handed-put_other l (Part (empty_sub s k)) (part-none _)) (λ l. handed-put_other l (Called r k) (called-none r k)) log
 
 pub handed-claim : (log : List Fact) (s l p : ℕ) → pair_count (after_claim log s l p) ≡ pair_count log
-handed-claim log s l p = by (has log (Desc s l p))
-  where
-    by : (b : Bool) → pair_count (cond b (put log (Claim s l p)) log) ≡ pair_count log
-    by true = handed-put_other log (Claim s l p) (claim-none s l p)
-    by false = refl
+handed-claim log s l p = claim_both (λ new. pair_count new ≡ pair_count log) log s l p (λ _. handed-put_other log (Claim s l p) (claim-none s l p)) refl
 
 pub handed-arrive : (log : List Fact) (sub : Sub) → pair_count (after_arrival log sub) ≡ pair_count log
 handed-arrive log sub = handed-put_other (put log (Part sub)) (Desc sub.slot sub.left sub.right) (desc-none _ _ _) ∙ handed-put_other log (Part sub) (part-none sub)

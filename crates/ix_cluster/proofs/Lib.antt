@@ -15,6 +15,7 @@ pub mod Listing
 pub mod Marks
 pub mod Members
 pub mod Pairs
+pub mod Recording
 pub mod SmallBanks
 pub mod Soundness
 pub mod StepCases

@@ -7,6 +7,7 @@ use Rattle.std.proofs.lemmas.Map.Views.{list_any-from_Contains, Contains-from_an
 use Rattle.ix_cluster.specs.declared.fact.Fact.{Fact}
 use Rattle.ix_cluster.specs.Facts.{same_fact, has, put}
 use Rattle.ix_cluster.proofs.FactLemmas.{same_fact-true, same_fact-refl}
+use Rattle.ix_cluster.proofs.Recording.{put_both}
 use Rattle.ix_cluster.proofs.Equivalences.{equivalence}
 use Rattle.ix_cluster.proofs.Counts.{put-new}
 
@@ -43,22 +44,10 @@ pub Contains-has : (log : List Fact) (f : Fact) → has log f ≡ true → Conta
 Contains-has log f h = Contains-from_any same_fact-true f log h
 
 pub put-keeps : (log : List Fact) (f g : Fact) → Contains log g → Contains (put log f) g
-put-keeps log f g h = by (has log f)
-  where
-    by : (b : Bool) → Contains (cond b log (log ++ f ∷ [])) g
-    by true = h
-    by false = Contains-append_left log (f ∷ []) g h
+put-keeps log f g h = put_both (λ new. Contains new g) log f (λ _. h) (λ _. Contains-append_left log (f ∷ []) g h)
 
 pub put-there : (log : List Fact) (f : Fact) → Contains (put log f) f
-put-there log f = by (cases_Bool (has log f))
-  where
-    by : (has log f ≡ true) ⊎ (has log f ≡ false) → Contains (put log f) f
-    by (inl e) = put-keeps log f f (Contains-has log f e)
-    by (inr e) = subst (λ l. Contains l f) (sym (put-new log f e)) (Contains-push log f)
+put-there log f = put_both (λ new. Contains new f) log f (Contains-has log f) (λ _. Contains-push log f)
 
 pub put-from : (log : List Fact) (f g : Fact) → Contains (put log f) g → Contains log g ⊎ (f ≡ g)
-put-from log f g h = by (has log f) h
-  where
-    by : (b : Bool) → Contains (cond b log (log ++ f ∷ [])) g → Contains log g ⊎ (f ≡ g)
-    by true a = inl a
-    by false a = Contains-push_cases log f g a
+put-from log f g = put_both (λ new. Contains new g → Contains log g ⊎ (f ≡ g)) log f (λ _. inl) (λ _. Contains-push_cases log f g)

@@ -33,6 +33,7 @@ use Rattle.ix_cluster.proofs.Counts.{put-old, put-new}
 use Rattle.ix_cluster.proofs.Elements.{get-push}
 use Rattle.ix_cluster.proofs.Handing.{handed-claim, handed-arrive, handed-after_end, handed-after_edge, handed-call}
 use Rattle.ix_cluster.proofs.Members.{same_fact-equivalence, put-keeps, put-there, put-from, Contains-has, first_has, rest_has, none_has}
+use Rattle.ix_cluster.proofs.Recording.{put_both}
 
 -- ---- what holds fact by fact
 
@@ -64,11 +65,7 @@ module _ (plan : Parts) (count m : ℕ) where
       by n s l p (inr h) = subst (λ (xs : List Fact). Contains xs (Desc s l p)) (sym (take_at log (f ∷ []) n (omega (arith, h.0)))) (may.later s l p h.1)
 
   pub good-put : (log : List Fact) (f : Fact) → MayCome log f → IsGood log → IsGood (put log f)
-  good-put log f may good = by (cases_Bool (has log f))
-    where
-      by : (has log f ≡ true) ⊎ (has log f ≡ false) → IsGood (put log f)
-      by (inl e) = subst IsGood (sym (put-old log f e)) good
-      by (inr e) = subst IsGood (sym (put-new log f e)) (good-push log f e may good)
+  good-put log f may good = put_both IsGood log f (λ _. good) (λ e. good-push log f e may good)
 
   -- ---- a call
 

@@ -17,6 +17,7 @@ use Rattle.ix_cluster.specs.StepAnswers.{answer_to, after_step}
 use Rattle.ix_cluster.specs.Steps.{empty_sub, after_first, after_firsts, after_call, edges_in, ends_in, after_edge, edge_is_first, edge_answer, end_answer, after_arrival, arrival_answer, after_claim, claim_answer}
 use Rattle.ix_cluster.proofs.Counts.{put-old, put-new}
 use Rattle.ix_cluster.proofs.Listing.{has-call_edge, has-put_other}
+use Rattle.ix_cluster.proofs.Recording.{put_both, along_firsts}
 
 module _ (plan : Parts) (log : List Fact) where
   -- the step with an answer and a log after that are those of another
@@ -127,23 +128,11 @@ grown_further : (log middle after : List Fact) → Grown log middle → Grown mi
 grown_further log middle after a b = (a.0 ++ b.0, b.1 ∙ ap (λ z. z ++ b.0) a.1 ∙ append_assoc log a.0 b.0)
 
 grown_put : (log : List Fact) (f : Fact) → Grown log (put log f)
-grown_put log f = by (has log f)
-  where
-    by : (b : Bool) → Grown log (cond b log (log ++ f ∷ []))
-    by true = grown_itself log
-    by false = (f ∷ [], refl)
+grown_put log f = put_both (Grown log) log f (λ _. grown_itself log) (λ _. (f ∷ [], refl))
 
 module _ (plan : Parts) where
-  grown_first : (k : ℕ) (log : List Fact) (s : ℕ) → Grown log (after_first plan k log s)
-  grown_first k log s = by (is_at_end plan s)
-    where
-      by : (b : Bool) → Grown log (cond b (put (put log (Desc s k k)) (Part (empty_sub s k))) (put log (Desc s k k)))
-      by true = grown_further log (put log (Desc s k k)) (put (put log (Desc s k k)) (Part (empty_sub s k))) (grown_put log (Desc s k k)) (grown_put (put log (Desc s k k)) (Part (empty_sub s k)))
-      by false = grown_put log (Desc s k k)
-
   grown_firsts : (k : ℕ) (firsts : List ℕ) (log : List Fact) → Grown log (after_firsts plan k firsts log)
-  grown_firsts k [] log = grown_itself log
-  grown_firsts k (s ∷ ss) log = grown_further log (after_first plan k log s) (after_firsts plan k (s ∷ ss) log) (grown_first k log s) (grown_firsts k ss (after_first plan k log s))
+  grown_firsts k = along_firsts Grown grown_itself grown_further plan k (λ log s. grown_put log (Desc s k k)) (λ log s. grown_put log (Part (empty_sub s k)))
 
   pub step_appends : (log : List Fact) (call : Call) (answer : Answer) (after : List Fact) → BankStep plan log call answer after → (more : List Fact) × (after ≡ log ++ more)
   step_appends log call answer after (edge_calls r k s l e w) =
