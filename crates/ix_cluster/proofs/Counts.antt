@@ -88,13 +88,7 @@ module _ (log now : List Fact) (f : Fact) (added : Bool) (same : now ≡ log) (s
 pub length-put : (log : List Fact) (f : Fact) → length (put log f) ≤ length log + 1
 length-put log f = put_both (λ new. length new ≤ length log + 1) log f (λ _. omega arith) (λ _. omega (arith, length-append log (f ∷ [])))
 
-pub unclaimed-put : (log : List Fact) (f : Fact) → unclaimed_in (put log f) ≤ unclaimed_in log + 1
-unclaimed-put log f = put_both (λ new. unclaimed_in new ≤ unclaimed_in log + 1) log f (λ _. omega arith) (λ _. unclaimed-push log f)
-
-pub unclaimed-put_claim : (log : List Fact) (s l p : ℕ) → has log (Desc s l p) ≡ true → has log (Claim s l p) ≡ false → unclaimed_in (put log (Claim s l p)) + 1 ≤ unclaimed_in log
-unclaimed-put_claim log s l p d c = rw (put-new log (Claim s l p) c) (unclaimed-claim log s l p d c)
-
--- and none more where it is no descriptor
+-- a fact that is no descriptor leaves no more to wait where it is put into the log
 pub unclaimed-put_other : (log : List Fact) (f : Fact) → ((l : List Fact) → is_unclaimed l f ≡ false) → unclaimed_in (put log f) ≤ unclaimed_in log
 unclaimed-put_other log f h = put_both (λ new. unclaimed_in new ≤ unclaimed_in log) log f (λ _. omega arith) (λ _. unclaimed-push_other log f h)
 

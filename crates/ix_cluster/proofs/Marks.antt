@@ -258,16 +258,6 @@ add-zero : (n : ℕ) → n + 0 ≡ n
 add-zero n = omega arith
 
 module _ (facts : List Fact) (marks : List Bool) (places : List Place) (fact_room mark_room place_room unclaimed free : ℕ) (is : IsLog facts marks places fact_room mark_room place_room unclaimed free) where
-  -- more room is no harm
-  pub IsLog-room : (fact_room' mark_room' place_room' free' : ℕ) → free' ≤ fact_room' → free' ≤ mark_room' → unclaimed + free' ≤ place_room' → length facts + free' ≤ 2 ^ 32 → length (log_of facts places) + unclaimed + free' < FACT_LIMIT → IsLog facts marks places fact_room' mark_room' place_room' unclaimed free'
-  IsLog-room fact_room' mark_room' place_room' free' f m r n s = record {
-    are_marked = is.are_marked;
-    room = record { counted = is.room.counted; room = r; small = s };
-    facts_fit = f;
-    marks_fit = m;
-    numbers = n;
-  }
-
   -- a fact that is no claim is put into it, with one more claim to come at most
   module _ (f : Fact) (plain : is_no_claim f ≡ true) (added : Bool) (facts' : List Fact) (marks' : List Bool) (places' : List Place) (said : added ≡ not (has facts f)) (facts_are : facts' ≡ put facts f) (marks_are : marks' ≡ cond added (marks ++ false ∷ []) marks) (places_are : places' ≡ cond added (places ++ Came (length facts) ∷ []) places) where
     pub added-log : added ≡ not (has (log_of facts places) f)

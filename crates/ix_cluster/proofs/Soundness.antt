@@ -345,18 +345,6 @@ module _ (plan : Parts) (count m : ℕ) where
     edges = λ r k s l h. absurd (nothing (Edge r k s l) h);
   }
 
-  -- a bank with no fact, where it is not the home of the first call
-  pub sound-empty : (home 0 0 count ≡ m → ⊥) → IsSoundBank plan count m (record { log = []; handed = 0 })
-  sound-empty other = record {
-    once = good-nothing.once;
-    at_home = good-nothing.at_home;
-    true_facts = good-nothing.true_facts;
-    companions = companions-nothing;
-    handed = refl;
-    opened = λ e. absurd (other e);
-    bounded = omega arith;
-  }
-
   -- a bank in which the first rule is called
   pub sound-begin : IsPlanned plan → home 0 0 count ≡ m → length (after_call plan [] 0 0) + unclaimed_in (after_call plan [] 0 0) < FACT_LIMIT → IsSoundBank plan count m (record { log = after_call plan [] 0 0; handed = 0 })
   sound-begin planned here bounded =
