@@ -1,11 +1,13 @@
--- What holds where a fact is recorded, and what a call keeps that each fact it records does.
+-- What holds where a fact is recorded, and what a call and a step keep that each fact they record does.
 use Rattle.std.proofs.Common.{◌≡◌, ℕ, Bool, true, false, List, [], ◌∷◌, ◌++◌, refl, ◌∙◌}
 use Rattle.std.proofs.lemmas.Bool.{cond_both}
 use Rattle.ix_model.specs.Expansion.Parts.{Parts}
 use Rattle.ix_cluster.specs.declared.fact.Fact.{Fact}
-use Rattle.ix_cluster.specs.declared.fact.Fact.TheVariants.{Called, Desc, Part, Claim}
+use Rattle.ix_cluster.specs.declared.fact.Fact.TheVariants.{Called, Edge, End, Desc, Part, Claim}
+use Rattle.ix_cluster.specs.BankSteps.{Call, AddEdge, AddEnd, Arrive, MakeClaim}
 use Rattle.ix_cluster.specs.Facts.{has, put}
 use Rattle.ix_cluster.specs.Firsts.{is_at_end, firsts_of}
+use Rattle.ix_cluster.specs.StepAnswers.{after_step}
 use Rattle.ix_cluster.specs.Steps.{empty_sub, after_first, after_firsts, after_call, after_claim}
 
 -- a fact that is there leaves the log, and one that is new goes behind it
@@ -39,3 +41,17 @@ module _ (R : List Fact → List Fact → Type 0) (itself : (log : List Fact) �
 pub same_after_call : {X : Type 0} (told : List Fact → X) (plan : Parts) (r k : ℕ) → ((log : List Fact) (s : ℕ) → told (put log (Desc s k k)) ≡ told log) → ((log : List Fact) (s : ℕ) → told (put log (Part (empty_sub s k))) ≡ told log)
     → ((log : List Fact) → told (put log (Called r k)) ≡ told log) → (log : List Fact) → told (after_call plan log r k) ≡ told log
 same_after_call told plan r k desc part called log = along_call (λ before after. told after ≡ told before) (λ _. refl) (λ _ _ _ e w. w ∙ e) plan k desc part r called log
+
+-- a relation that leads along each recorded fact leads along each step
+pub along_step : (R : List Fact → List Fact → Type 0) → ((log : List Fact) → R log log) → ((a b c : List Fact) → R a b → R b c → R a c) → ((log : List Fact) (f : Fact) → R log (put log f)) → (plan : Parts) (log : List Fact) (call : Call) → R log (after_step plan log call)
+along_step R itself further puts plan log (AddEdge r k s l) =
+    let called = after_call plan log r k in
+    let new = put called (Edge r k s l) in
+    cond_both (has log (Edge r k s l)) log new (R log) (λ _. itself log)
+    (λ _. further log called new (along_call R itself further plan k (λ l t. puts l (Desc t k k)) (λ l t. puts l (Part (empty_sub t k))) r (λ l. puts l (Called r k)) log) (puts called (Edge r k s l)))
+along_step R itself further puts plan log (AddEnd r k e) = puts log (End r k e)
+along_step R itself further puts plan log (Arrive sub) =
+    let recorded = put log (Part sub) in
+    let desc = Desc sub.slot sub.left sub.right in
+    further log recorded (put recorded desc) (puts log (Part sub)) (puts recorded desc)
+along_step R itself further puts plan log (MakeClaim s l p) = claim_both (R log) log s l p (λ _. puts log (Claim s l p)) (itself log)

@@ -12,10 +12,9 @@ use Rattle.ix_cluster.specs.Seen.{Bank}
 use Rattle.ix_cluster.specs.Steps.{empty_sub, after_first, after_firsts, after_call}
 use Rattle.ix_cluster.proofs.CountBy.{count_append}
 use Rattle.ix_cluster.proofs.Counts.{put-new}
-use Rattle.ix_cluster.proofs.Recording.{put_both, claim_both, along_call}
+use Rattle.ix_cluster.proofs.Recording.{put_both, along_call, along_step}
 use Rattle.ix_closure.specs.declared.owed.Owed.{Owed}
-use Rattle.ix_closure.specs.declared.owed.Owed.TheVariants.{Claim, Edge, End, Arrive}
-use Rattle.ix_closure.specs.Events.{log_after}
+use Rattle.ix_closure.specs.Events.{call_of, log_after}
 use Rattle.ix_closure.proofs.Lists.ListCounts.{sum_set}
 
 module _ (p : Fact → Bool) where
@@ -37,14 +36,7 @@ module _ (p : Fact → Bool) where
 
   -- and neither does a step
   pub count_after : (plan : Parts) (log : List Fact) (o : Owed) → count_by p log ≤ count_by p (log_after plan log o)
-  count_after plan log (Claim s l e) = claim_both (λ new. count_by p log ≤ count_by p new) log s l e (λ _. count_put log (fact.Claim s l e)) (omega arith)
-  count_after plan log (Edge r k s l) = by (has log (fact.Edge r k s l))
-    where
-      by : (b : Bool) → count_by p log ≤ count_by p (cond b log (put (after_call plan log r k) (fact.Edge r k s l)))
-      by true = omega arith
-      by false = omega (arith, count_call plan k log r, count_put (after_call plan log r k) (fact.Edge r k s l))
-  count_after plan log (End r k e) = count_put log (fact.End r k e)
-  count_after plan log (Arrive sub) = omega (arith, count_put log (fact.Part sub), count_put (put log (fact.Part sub)) (fact.Desc sub.slot sub.left sub.right))
+  count_after plan log o = along_step (λ before after. count_by p before ≤ count_by p after) (λ _. omega arith) (λ _ _ _ e w. omega (arith, e, w)) count_put plan log (call_of o)
 
   -- ---- in all banks
 
