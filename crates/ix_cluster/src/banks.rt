@@ -112,13 +112,10 @@ fn opening_bank(alloc: Global, plan: &Plan, count: u32, m: u32) -> Result<Bank, 
 fn later(pos: u32, facts: &[Fact]) -> u32
     ensures { result ≡ fold later_of pos facts.now }
 {
-    let mut furthest = pos;
-    for fact in facts {
-        if let Fact::Desc { pos, .. } = fact {
-            furthest = furthest.max(*pos);
-        }
-    }
-    furthest
+    facts.iter().fold(pos, |furthest, fact| match fact {
+        Fact::Desc { pos, .. } => furthest.max(*pos),
+        _ => furthest,
+    })
 }
 
 // How many of the facts are descriptors.
@@ -126,13 +123,10 @@ fn descriptor_count(facts: &[Fact]) -> u64
     ensures count { result ≡ count_by is_descriptor facts.now }
     ensures small { result ≤ length facts.now }
 {
-    let mut count = 0;
-    for fact in facts {
-        if let Fact::Desc { .. } = fact {
-            count += 1;
-        }
-    }
-    count
+    let descriptors = facts
+        .iter()
+        .filter(|fact| matches!(fact, Fact::Desc { .. }));
+    descriptors.count() as u64
 }
 
 // Adds the subtrees among the facts, in their order.
