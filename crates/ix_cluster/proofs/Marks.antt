@@ -25,7 +25,7 @@ use Rattle.ix_cluster.proofs.ButClaims.{has-but_claims, once-filter}
 use Rattle.ix_cluster.proofs.Counts.{has-push_new, has-push_old, put-old, put-new, length-put, unclaimed-put_other, unclaimed-some, unclaimed-claim, HasRoom-put}
 use Rattle.ix_cluster.proofs.Elements.{get-left, get-last, get-push, get-set_same, get-set_other}
 use Rattle.ix_cluster.proofs.FactLemmas.{eq-same_fact, same_fact-true, same_fact-refl}
-use Rattle.ix_cluster.proofs.Members.{first_has, rest_has, none_has, has-Contains, same_fact-equivalence}
+use Rattle.ix_cluster.proofs.Members.{first_has, rest_has, nth_has, none_has, has-Contains, same_fact-equivalence}
 
 -- a fact stands at one place of a list that has each once
 module _ (facts : List Fact) (f : Fact) (once : IsDistinct same_fact facts) where
@@ -151,7 +151,7 @@ module _ (facts : List Fact) (marks : List Bool) (places : List Place) (is : Are
     log_of-claim = log_of-claimed facts places n (Desc s l p) at
 
     pub has-descriptor : has facts (Desc s l p) ≡ true
-    has-descriptor = has-Contains facts (Desc s l p) (n, slice_get_within facts n (Desc s l p) at, get_or_from_slice_get facts n (Desc s l p) (Desc s l p) at)
+    has-descriptor = has-Contains facts (Desc s l p) (nth_has facts n (Desc s l p) at)
 
     pub AreMarked-claim : has (log_of facts places) (Claim s l p) ≡ false → AreMarked facts (slice_set marks n true) (places ++ Claimed n ∷ [])
     AreMarked-claim new = record {

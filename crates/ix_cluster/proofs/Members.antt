@@ -1,9 +1,10 @@
--- What a list has, and what a log has after a fact is put into it.
-use Rattle.std.proofs.Common.{◌≡◌, zero, suc, Bool, true, false, cond, List, [], ◌∷◌, ◌++◌, Contains, refl, sym, ap, ◌∙◌, arith, subst, ◌⊎◌, inl, inr, true≢false}
+-- What a list has, by std's lemmas at an element in front, and what a log has after a fact is put into it.
+use Rattle.std.proofs.Common.{◌≡◌, ℕ, zero, suc, Bool, true, false, cond, List, [], ◌∷◌, ◌++◌, Contains, Some, slice_get, refl, sym, ap, ◌∙◌, arith, subst, ◌⊎◌, inl, inr, true≢false}
 use Rattle.std.proofs.lemmas.Bool.{cases_Bool}
 use Rattle.std.specs.Cmp.{IsEquivalence}
 use Rattle.std.proofs.lemmas.List.Elements.{Contains-append_left, Contains-append_right, Contains-append_cases, Contains-push, Contains-push_cases}
 use Rattle.std.proofs.lemmas.Map.Views.{list_any-from_Contains, Contains-from_any}
+use Rattle.std.proofs.lemmas.Option.{get_or_from_slice_get, slice_get_within}
 use Rattle.ix_cluster.specs.declared.fact.Fact.{Fact}
 use Rattle.ix_cluster.specs.Facts.{same_fact, has, put}
 use Rattle.ix_cluster.proofs.FactLemmas.{same_fact-true, same_fact-refl}
@@ -29,6 +30,9 @@ module _ {X : Type 0} where
   -- what holds of the first and of all behind it holds of all
   pub each_has : (P : X → Type 0) (y : X) (ys : List X) → P y → ((x : X) → Contains ys x → P x) → (x : X) → Contains (y ∷ ys) x → P x
   each_has P y ys here rest x h = elim (either_has y ys x h) [ inl e ↦ subst P e here | inr n ↦ rest x n ]
+
+  pub nth_has : (xs : List X) (n : ℕ) (x : X) → slice_get xs n ≡ Some x → Contains xs x
+  nth_has xs n x e = (n, slice_get_within xs n x e, get_or_from_slice_get xs n x x e)
 
   pub none_has : (x : X) → Contains [] x → ⊥
   none_has x h = omega (arith, h.1)

@@ -9,8 +9,9 @@ use Rattle.ix_cluster.specs.ClosedFacts.{IsInClosed}
 use Rattle.ix_cluster.specs.Homes.{home_of}
 use Rattle.ix_cluster.specs.Seen.{Bank}
 use Rattle.ix_cluster.specs.Sound.{IsSoundBank, AreSound}
+use Rattle.ix_cluster.proofs.Members.{nth_has}
 use Rattle.ix_closure.specs.Due.{IsRecorded}
-use Rattle.ix_closure.proofs.Lists.ListMembers.{nth_has, place_in, flat_has, flat_from}
+use Rattle.ix_closure.proofs.Lists.ListMembers.{place_in, flat_has, flat_from}
 use Rattle.ix_closure.proofs.Lists.ListUpdates.{set_other, set_from}
 use Rattle.ix_cluster.proofs.Elements.{get-set_same}
 

@@ -9,6 +9,7 @@ use Rattle.ix_cluster.specs.ClosedFacts.{IsInClosed}
 use Rattle.ix_cluster.specs.Homes.{home_of}
 use Rattle.ix_cluster.specs.Room.{unclaimed_in}
 use Rattle.ix_cluster.specs.Seen.{Bank}
+use Rattle.ix_cluster.proofs.Members.{nth_has}
 use Rattle.ix_closure.specs.declared.owed.Owed.{Owed}
 use Rattle.ix_closure.specs.Balance.{IsBalanced}
 use Rattle.ix_closure.specs.Events.{Event, bank_after, home_for}
@@ -17,7 +18,6 @@ use Rattle.ix_closure.specs.Ready.{HasSlot, IsReady, IsReplaced}
 use Rattle.ix_closure.specs.Seen.{State}
 use Rattle.ix_closure.proofs.Due.DueClosed.{owed_closed}
 use Rattle.ix_closure.proofs.Balancing.EventBalance.{event_balanced}
-use Rattle.ix_closure.proofs.Lists.ListMembers.{nth_has}
 use Rattle.ix_closure.proofs.Lists.ListUpdates.{set_same}
 use Rattle.ix_closure.proofs.Due.Readiness.{step_slot, step_ready}
 use Rattle.ix_closure.proofs.Balancing.RecordedFacts.{recorded_closed, recorded_by}

@@ -4,13 +4,10 @@ use Rattle.std.specs.List.{All, filter_map, flat_map, cons_option}
 use Rattle.std.proofs.lemmas.List.{get_or-map, length-map}
 use Rattle.std.proofs.lemmas.List.Concat.{flat_map-cons}
 use Rattle.std.proofs.lemmas.List.Elements.{All-contains_itself, All-weaker, Contains-append_left, Contains-append_right, Contains-append_cases}
-use Rattle.std.proofs.lemmas.Option.{get_or_from_slice_get, slice_get-get_or, slice_get_within}
+use Rattle.std.proofs.lemmas.Option.{slice_get-get_or}
 use Rattle.ix_cluster.proofs.Members.{first_has, rest_has, either_has, none_has}
 
 module _ {X : Type 0} where
-  pub nth_has : (xs : List X) (n : ℕ) (x : X) → slice_get xs n ≡ Some x → Contains xs x
-  nth_has xs n x e = (n, slice_get_within xs n x e, get_or_from_slice_get xs n x x e)
-
   pub place_in : (xs : List X) (x : X) → Contains xs x → (n : ℕ) × (slice_get xs n ≡ Some x)
   place_in xs x h = (h.0, slice_get-get_or xs h.0 x h.1 ∙ ap Some h.2)
 
