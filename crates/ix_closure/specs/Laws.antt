@@ -1,6 +1,6 @@
 -- Laws of steps and of the closure: what a step brings and leads to is one thing, and so are the end of a list of choices
 -- and the closure; and what follows stays in the closure and in balance.
-use Rattle.std.specs.Prelude.{◌≡◌, ℕ, ◌+◌, ◌<◌, ◌^◌, ◌↔◌, List, length, Contains, Some, slice_get}
+use Rattle.std.specs.Prelude.{◌≡◌, ℕ, ◌+◌, ◌<◌, ◌↔◌, List, length, Contains, Some, slice_get}
 use Rattle.std.specs.List.{filter_map}
 use Rattle.ix_model.specs.Expansion.Parts.{Parts}
 use Rattle.ix_model.specs.Expansion.Planned.{IsPlanned}

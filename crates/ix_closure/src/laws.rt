@@ -1,5 +1,5 @@
 //! Worked examples and laws of the definitions. Each function's contract is the example or the law; the bodies are empty.
-ghost use Rattle.std.specs.Prelude.{◌≡◌, ◌≢◌, [], ◌∷◌, ◌++◌, ◌^◌, true, false, codes, replicate, None, Some, Contains};
+ghost use Rattle.std.specs.Prelude.{◌≡◌, ◌≢◌, [], ◌∷◌, ◌++◌, true, false, codes, replicate, None, Some, Contains};
 ghost use Rattle.ix_model.specs.Closure.Useful.{sub_at};
 ghost use Rattle.ix_examples.specs.SmallPlans.{cycle, insertion, nothing, only_a, two_alternatives, two_halves};
 ghost use Rattle.ix_cluster.specs.declared.answers.Arrived.TheVariants.{Fresh, Known};

@@ -1,5 +1,5 @@
 //! The four kinds of step, over a bank and the owed steps.
-ghost use Rattle.std.specs.Prelude.{◌≡◌, ℕ, ◌<◌, ◌≤◌, ◌+◌, ◌^◌, ◌++◌, List, [], length, remove, Option, Some, OnOk, OnErr};
+ghost use Rattle.std.specs.Prelude.{◌≡◌, ℕ, ◌<◌, ◌≤◌, ◌+◌, ◌++◌, List, [], length, remove, Option, Some, OnOk, OnErr};
 ghost use Rattle.std.specs.List.{All, cons_option};
 ghost use Rattle.std.specs.Vec.{vec_len, vec_capacity};
 ghost use Rattle.ix_model.specs.declared.grammar.Mark.{Mark};

@@ -1,5 +1,5 @@
 -- The first slots of a rule, and the alternatives that begin with them.
-use Rattle.std.proofs.Common.{◌≡◌, ℕ, zero, suc, Option, None, Contains, is_none, subst, ◌+◌, ◌<◌, Bool, true, false, List, [], ◌∷◌, length, map, Some, slice_get, slice_index_or, refl, sym, ap, ◌∙◌, arith}
+use Rattle.std.proofs.Common.{◌≡◌, ℕ, Option, None, Contains, is_none, subst, ◌+◌, ◌<◌, true, List, length, map, Some, slice_get, slice_index_or, refl, sym, ap, ◌∙◌, arith}
 use Rattle.std.specs.List.{range_with_len}
 use Rattle.std.proofs.lemmas.List.FromFn.{map-range_with_len_more, get_or-map-range_with_len, length-map-range_with_len}
 use Rattle.std.proofs.lemmas.List.Sums.{fold_push, prefix_len_is}

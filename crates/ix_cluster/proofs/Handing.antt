@@ -1,6 +1,5 @@
 -- the pairs that were handed out, as facts are recorded
-use Rattle.std.proofs.Common.{◌≡◌, ℕ, ◌+◌, ◌*◌, ◌^◌, ◌≤◌, ◌<◌, Bool, true, false, cond, List, [], ◌∷◌, ◌++◌, length, count_by, Some, None, refl, sym, ap, ◌∙◌, arith, ◌⊎◌, inl, inr}
-use Rattle.std.proofs.lemmas.Bool.{cases_Bool}
+use Rattle.std.proofs.Common.{◌≡◌, ℕ, ◌+◌, ◌*◌, ◌≤◌, ◌<◌, Bool, true, false, cond, List, [], ◌∷◌, ◌++◌, length, count_by, Some, None, refl, sym, ap, ◌∙◌, arith}
 use Rattle.std.specs.List.{cons_option}
 use Rattle.std.proofs.lemmas.List.Sums.{count_by-le-length}
 use Rattle.std.proofs.Math.Nat.{mul-le-mul}
@@ -12,11 +11,10 @@ use Rattle.ix_cluster.specs.declared.fact.Fact.{Fact}
 use Rattle.ix_cluster.specs.declared.fact.Fact.TheVariants.{Called, Edge, End, Desc, Part, Claim}
 use Rattle.ix_cluster.specs.Facts.{has, put}
 use Rattle.ix_cluster.specs.Lists.{cluster, same_cluster}
-use Rattle.ix_cluster.specs.Firsts.{is_at_end, firsts_of}
-use Rattle.ix_cluster.specs.Steps.{empty_sub, end_of, edges_in, ends_in, after_first, after_firsts, after_call, after_claim, after_arrival}
+use Rattle.ix_cluster.specs.Steps.{empty_sub, end_of, edges_in, ends_in, after_call, after_claim, after_arrival}
 use Rattle.ix_cluster.specs.Handed.{meets, pair_count}
 use Rattle.ix_cluster.proofs.CountBy.{count_cons, count_push, count_none}
-use Rattle.ix_cluster.proofs.Counts.{put-old, put-new}
+use Rattle.ix_cluster.proofs.Counts.{put-new}
 use Rattle.ix_cluster.proofs.ListLemmas.{same_cluster-equivalence}
 use Rattle.ix_cluster.proofs.Listing.{kept-call, has-call_edge}
 use Rattle.ix_cluster.proofs.Recording.{put_both, claim_both, same_after_call}

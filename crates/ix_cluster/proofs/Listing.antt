@@ -1,6 +1,5 @@
 -- the edges and ends of a log, as facts are recorded
-use Rattle.std.proofs.Common.{◌≡◌, ℕ, Bool, true, false, cond, List, [], ◌∷◌, ◌++◌, Option, Some, None, refl, sym, ap, ◌∙◌, arith, ◌⊎◌, inl, inr}
-use Rattle.std.proofs.lemmas.Bool.{cases_Bool}
+use Rattle.std.proofs.Common.{◌≡◌, ℕ, Bool, true, false, cond, List, [], ◌∷◌, ◌++◌, Option, Some, None, refl, sym, ap, ◌∙◌, arith}
 use Rattle.std.specs.List.{filter_map, cons_option}
 use Rattle.std.specs.declared.vec.Vec.{Vec}
 use Rattle.std.proofs.lemmas.List.{append-nil}
@@ -14,11 +13,10 @@ use Rattle.ix_model.specs.declared.sub.Sub.{Sub}
 use Rattle.ix_cluster.specs.declared.fact.Fact.{Fact}
 use Rattle.ix_cluster.specs.declared.fact.Fact.TheVariants.{Called, Edge, End, Desc, Part, Claim}
 use Rattle.ix_cluster.specs.Facts.{same_fact, has, put}
-use Rattle.ix_cluster.specs.Firsts.{is_at_end, firsts_of}
 use Rattle.ix_cluster.specs.Lists.{cluster, same_cluster, list_at, PushesAt}
 use Rattle.ix_cluster.specs.Listed.{AreListed}
-use Rattle.ix_cluster.specs.Steps.{empty_sub, edge_of, end_of, edges_in, ends_in, after_first, after_firsts, after_call, after_claim, after_arrival}
-use Rattle.ix_cluster.proofs.Counts.{put-old, put-new}
+use Rattle.ix_cluster.specs.Steps.{empty_sub, edge_of, end_of, edges_in, ends_in, after_call, after_claim, after_arrival}
+use Rattle.ix_cluster.proofs.Counts.{put-new}
 use Rattle.ix_cluster.proofs.Recording.{put_both, claim_both, same_after_call}
 
 module _ {X : Type 0} (g : Fact → Option X) where

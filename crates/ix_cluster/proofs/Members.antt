@@ -1,6 +1,5 @@
 -- What a list has, by std's lemmas at an element in front, and what a log has after a fact is put into it.
-use Rattle.std.proofs.Common.{◌≡◌, ℕ, zero, suc, Bool, true, false, cond, List, [], ◌∷◌, ◌++◌, Contains, Some, slice_get, refl, sym, ap, ◌∙◌, arith, subst, ◌⊎◌, inl, inr, true≢false}
-use Rattle.std.proofs.lemmas.Bool.{cases_Bool}
+use Rattle.std.proofs.Common.{◌≡◌, ℕ, zero, suc, true, List, [], ◌∷◌, Contains, Some, slice_get, arith, subst, ◌⊎◌, inl, inr}
 use Rattle.std.specs.Cmp.{IsEquivalence}
 use Rattle.std.proofs.lemmas.List.Elements.{Contains-append_left, Contains-append_right, Contains-append_cases, Contains-push, Contains-push_cases}
 use Rattle.std.proofs.lemmas.Map.Views.{list_any-from_Contains, Contains-from_any}
@@ -10,7 +9,6 @@ use Rattle.ix_cluster.specs.Facts.{same_fact, has, put}
 use Rattle.ix_cluster.proofs.FactLemmas.{same_fact-true, same_fact-refl}
 use Rattle.ix_cluster.proofs.Recording.{put_both}
 use Rattle.ix_cluster.proofs.Equivalences.{equivalence}
-use Rattle.ix_cluster.proofs.Counts.{put-new}
 
 module _ {X : Type 0} where
   -- a list of one has that one alone

@@ -1,5 +1,5 @@
 -- The pairs of a log, cluster by cluster.
-use Rattle.std.proofs.Common.{◌≡◌, ℕ, suc, ◌+◌, ◌*◌, Bool, true, false, cond, List, [], ◌∷◌, length, count_by, Contains, Some, None, refl, sym, ap, ◌∙◌, arith, subst, true≢false, ◌⊎◌, inl, inr}
+use Rattle.std.proofs.Common.{◌≡◌, ℕ, suc, ◌+◌, ◌*◌, true, false, cond, List, [], ◌∷◌, length, count_by, Contains, Some, None, refl, sym, ap, ◌∙◌, arith, subst, true≢false, ◌⊎◌, inl, inr}
 use Rattle.std.proofs.lemmas.Bool.{cases_Bool}
 use Rattle.std.specs.List.{cons_option, sum_by, IsDistinct, AllByRecursion}
 use Rattle.std.proofs.lemmas.List.Sums.{sum_by-cons}

@@ -1,5 +1,5 @@
 -- The steps of a bank keep it sound.
-use Rattle.std.proofs.Common.{◌≡◌, ℕ, ◌+◌, ◌<◌, ◌^◌, zero, suc, Bool, true, false, cond, List, [], ◌∷◌, ◌++◌, length, take, Contains, Some, slice_get, refl, sym, ap, ◌∙◌, arith, subst, ◌⊎◌, inl, inr}
+use Rattle.std.proofs.Common.{◌≡◌, ℕ, ◌+◌, ◌<◌, Bool, true, false, cond, List, [], ◌∷◌, ◌++◌, length, take, Contains, Some, slice_get, refl, sym, ap, ◌∙◌, arith, subst, ◌⊎◌, inl, inr}
 use Rattle.std.proofs.lemmas.Bool.{cases_Bool}
 use Rattle.std.specs.List.{IsDistinct}
 use Rattle.std.proofs.lemmas.List.{take_at, take-append-le}
@@ -29,7 +29,7 @@ use Rattle.ix_cluster.specs.Sound.{AreTrue, HasCompanions, IsSoundBank}
 use Rattle.ix_cluster.specs.Steps.{empty_sub, after_first, after_firsts, after_call, after_claim, after_arrival, after_edge, edges_in, ends_in, end_answer, edge_answer}
 use Rattle.ix_cluster.proofs.Beginning.{firsts_have, firsts_are, ends_at_once, at_end_of}
 use Rattle.ix_cluster.proofs.Calls.{IsBegun, call-keeps, call-there, call-from, call-desc, call-part}
-use Rattle.ix_cluster.proofs.Counts.{put-old, put-new}
+use Rattle.ix_cluster.proofs.Counts.{put-old}
 use Rattle.ix_cluster.proofs.Elements.{get-push}
 use Rattle.ix_cluster.proofs.Handing.{handed-claim, handed-arrive, handed-after_end, handed-after_edge, handed-call}
 use Rattle.ix_cluster.proofs.Members.{same_fact-equivalence, put-keeps, put-there, put-from, Contains-has, first_has, rest_has, none_has}

@@ -10,11 +10,11 @@ use Rattle.ix_cluster.specs.declared.fact.Fact.{Fact}
 use Rattle.ix_cluster.specs.declared.fact.Fact.TheVariants.{Called, Edge, End, Desc, Part, Claim}
 use Rattle.ix_cluster.specs.BankSteps.{Call, AddEdge, AddEnd, Arrive, MakeClaim, Answer, Opens, Meets, Arrives, Belongs, BankStep, edge_calls, edge_joins, edge_again, end_comes, end_again, sub_fresh, sub_known, claim_mine, claim_taken, claim_unknown}
 use Rattle.ix_cluster.specs.Facts.{has, put}
-use Rattle.ix_cluster.specs.Firsts.{firsts_of, is_at_end}
+use Rattle.ix_cluster.specs.Firsts.{firsts_of}
 use Rattle.ix_cluster.specs.LogPlaces.{is_no_claim}
 use Rattle.ix_cluster.specs.Lists.{cluster}
 use Rattle.ix_cluster.specs.StepAnswers.{answer_to, after_step}
-use Rattle.ix_cluster.specs.Steps.{empty_sub, after_first, after_firsts, after_call, edges_in, ends_in, after_edge, edge_is_first, edge_answer, end_answer, after_arrival, arrival_answer, after_claim, claim_answer}
+use Rattle.ix_cluster.specs.Steps.{after_firsts, after_call, edges_in, ends_in, after_edge, edge_is_first, edge_answer, end_answer, after_arrival, arrival_answer, after_claim, claim_answer}
 use Rattle.ix_cluster.proofs.Counts.{put-old, put-new}
 use Rattle.ix_cluster.proofs.Listing.{has-call_edge, has-put_other}
 use Rattle.ix_cluster.proofs.Recording.{put_both, along_step}

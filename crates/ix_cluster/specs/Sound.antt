@@ -1,5 +1,5 @@
 -- What holds of each bank between two steps. It is this project's own.
-use Rattle.std.specs.Prelude.{◌≡◌, ℕ, ◌+◌, ◌<◌, ◌≤◌, ◌^◌, List, length, Contains, Some, slice_get, take}
+use Rattle.std.specs.Prelude.{◌≡◌, ℕ, ◌+◌, ◌<◌, ◌≤◌, List, length, Contains, Some, slice_get, take}
 use Rattle.std.specs.List.{IsDistinct}
 use Rattle.ix_model.specs.declared.sub.Sub.{Sub}
 use Rattle.ix_model.specs.Expansion.Parts.{Parts}

@@ -154,7 +154,9 @@ impl Log {
         ensures small { OnOk result (length self.new.facts < FACT_LIMIT) }
     {
         let room = self.unclaimed + more;
-        if self.places.len() as u64 + room >= FACT_LIMIT || self.facts.len() as u64 + more > NUMBERS {
+        if self.places.len() as u64 + room >= FACT_LIMIT
+            || self.facts.len() as u64 + more > NUMBERS
+        {
             return Err(AllocError);
         }
         self.facts.reserve(more as usize)?;

@@ -1,5 +1,5 @@
 -- A step keeps its bank sound.
-use Rattle.std.proofs.Common.{◌≡◌, ℕ, ◌+◌, ◌^◌, ◌<◌, length, refl, arith}
+use Rattle.std.proofs.Common.{◌≡◌, ℕ, ◌+◌, ◌<◌, length, refl, arith}
 use Rattle.ix_model.specs.Expansion.Parts.{Parts}
 use Rattle.ix_model.specs.Expansion.Planned.{IsPlanned}
 use Rattle.ix_closure_laws.proofs.ClosedWithin.{edge_within}

@@ -63,7 +63,7 @@ fewer_pairs (x ∷ xs) ys d within =
     let rest = IsDistinct-tail same_fact x xs d in
     let place = place_in ys x (within x (first_has x xs)) in
     let left : (f : Fact) → Contains xs f → Contains (remove ys place.0) f
-        = λ f h. elim (taken_or_left ys place.0 x f place.1 (within f (rest_has x xs f h))) [ inl same ↦ absurd (not_first x xs d f h same) | inr there ↦ there ] in
+    = λ f h. elim (taken_or_left ys place.0 x f place.1 (within f (rest_has x xs f h))) [ inl same ↦ absurd (not_first x xs d f h same) | inr there ↦ there ] in
     omega (
       arith,
       fewer (meets x) xs (remove ys place.0) rest (λ f h _. left f h),

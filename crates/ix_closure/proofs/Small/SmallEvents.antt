@@ -1,5 +1,5 @@
 -- Events of the small states of the worked examples.
-use Rattle.std.proofs.Common.{◌≡◌, ℕ, ◌+◌, ◌<◌, ◌^◌, List, [], ◌∷◌, ◌++◌, length, slice_get, slice_set, refl, sym, ap, arith}
+use Rattle.std.proofs.Common.{◌≡◌, ℕ, ◌+◌, ◌<◌, List, [], ◌∷◌, ◌++◌, length, slice_get, slice_set, refl, sym, ap, arith}
 use Rattle.ix_examples.specs.SmallPlans.{cycle, nothing}
 use Rattle.ix_model.specs.Expansion.Parts.{Parts}
 use Rattle.ix_cluster.specs.declared.limits.TheConstants.{FACT_LIMIT}

@@ -1,5 +1,5 @@
 -- Small states that are balanced though something is recorded without what it comes from.
-use Rattle.std.proofs.Common.{rules, ◌≡◌, Some, ◌∙◌, ℕ, ◌+◌, ◌<◌, ◌^◌, [], ◌∷◌, ◌++◌, Contains, None, codes, length, refl, sym, subst, arith}
+use Rattle.std.proofs.Common.{rules, ◌≡◌, Some, ◌∙◌, ℕ, ◌+◌, ◌<◌, [], ◌∷◌, ◌++◌, Contains, None, codes, length, refl, sym, subst, arith}
 use Rattle.ix_model.specs.Closure.Useful.{sub_at}
 use Rattle.ix_model.specs.Closure.Closed as closed
 use Rattle.ix_model.specs.Expansion.Parts.{Parts}

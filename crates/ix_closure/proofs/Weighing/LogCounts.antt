@@ -1,5 +1,5 @@
 -- How many facts pass a test, as facts are put into a log, a rule is called, a step is done, and one of several banks changes.
-use Rattle.std.proofs.Common.{◌≡◌, ℕ, ◌+◌, ◌≤◌, Bool, true, false, cond, List, [], ◌∷◌, ◌++◌, count_by, Some, slice_get, slice_set, refl, ap, arith}
+use Rattle.std.proofs.Common.{◌≡◌, ℕ, ◌+◌, ◌≤◌, Bool, true, false, cond, List, [], ◌∷◌, count_by, Some, slice_get, slice_set, refl, ap, arith}
 use Rattle.std.specs.List.{sum_by}
 use Rattle.std.proofs.lemmas.List.Sums.{sum_by-cons}
 use Rattle.ix_model.specs.Expansion.Parts.{Parts}
@@ -7,9 +7,8 @@ use Rattle.ix_cluster.specs.declared.fact.Fact.{Fact}
 use Rattle.ix_cluster.specs.declared.fact.Fact.TheVariants as fact
 use Rattle.ix_cluster.specs.Banks.{facts_of}
 use Rattle.ix_cluster.specs.Facts.{has, put}
-use Rattle.ix_cluster.specs.Firsts.{is_at_end, firsts_of}
 use Rattle.ix_cluster.specs.Seen.{Bank}
-use Rattle.ix_cluster.specs.Steps.{empty_sub, after_first, after_firsts, after_call}
+use Rattle.ix_cluster.specs.Steps.{empty_sub, after_call}
 use Rattle.ix_cluster.proofs.CountBy.{count_append}
 use Rattle.ix_cluster.proofs.Counts.{put-new}
 use Rattle.ix_cluster.proofs.Recording.{put_both, along_call, along_step}

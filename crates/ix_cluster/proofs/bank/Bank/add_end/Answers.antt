@@ -1,4 +1,4 @@
-use Rattle.std.proofs.Common.{arith, ◌≡◌, ◌∙◌, ◌+◌, ◌<◌, ◌^◌, List, [], length, cond, true, false, sym, ap, subst, rules}
+use Rattle.std.proofs.Common.{arith, ◌≡◌, ◌∙◌, ◌+◌, ◌<◌, List, [], length, cond, true, false, sym, ap, subst, rules}
 use Rattle.ix_cluster.specs.declared.limits.TheConstants.{FACT_LIMIT}
 use Rattle.ix_cluster.specs.declared.fact.Fact.{Fact}
 use Rattle.ix_cluster.specs.declared.fact.Fact.TheVariants.{End}
