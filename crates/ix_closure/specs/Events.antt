@@ -1,6 +1,7 @@
 -- One owed step. It is this project's own.
-use Rattle.std.specs.Prelude.{◌≡◌, ℕ, ◌+◌, ◌<◌, ◌^◌, List, ◌++◌, length, remove, Some, slice_get, slice_set}
+use Rattle.std.specs.Prelude.{◌≡◌, ℕ, ◌+◌, ◌<◌, List, ◌++◌, length, remove, Some, slice_get, slice_set}
 use Rattle.ix_model.specs.Expansion.Parts.{Parts}
+use Rattle.ix_cluster.specs.declared.limits.TheConstants.{FACT_LIMIT}
 use Rattle.ix_cluster.specs.declared.fact.Fact.{Fact}
 use Rattle.ix_cluster.specs.BankSteps.{Call, AddEdge, AddEnd, MakeClaim}
 use Rattle.ix_cluster.specs.BankSteps as call
@@ -51,4 +52,4 @@ pub record Event (plan : Parts) (old : State) (n : ℕ) (new : State) : Type 0 w
   pub follows : Follows plan bank.log step more
   pub owed : new.owed ≡ remove old.owed n ++ more
   -- a step for whose facts no machine has memory is none
-  pub bounded : length (log_after plan bank.log step) + unclaimed_in (log_after plan bank.log step) < 2 ^ 57
+  pub bounded : length (log_after plan bank.log step) + unclaimed_in (log_after plan bank.log step) < FACT_LIMIT

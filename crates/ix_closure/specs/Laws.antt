@@ -1,9 +1,10 @@
 -- Laws of steps and of the closure: what a step brings and leads to is one thing, and so are the end of a list of choices
 -- and the closure; and what follows stays in the closure and in balance.
-use Rattle.std.specs.Prelude.{◌≡◌, ℕ, ◌+◌, ◌<◌, ◌^◌, ◌↔◌, List, length, Contains, Some, slice_get}
+use Rattle.std.specs.Prelude.{◌≡◌, ℕ, ◌+◌, ◌<◌, ◌↔◌, List, length, Contains, Some, slice_get}
 use Rattle.std.specs.List.{filter_map}
 use Rattle.ix_model.specs.Expansion.Parts.{Parts}
 use Rattle.ix_model.specs.Expansion.Planned.{IsPlanned}
+use Rattle.ix_cluster.specs.declared.limits.TheConstants.{FACT_LIMIT}
 use Rattle.ix_cluster.specs.declared.fact.Fact.{Fact}
 use Rattle.ix_cluster.specs.BankSteps.{BankStep}
 use Rattle.ix_cluster.specs.StepAnswers.{answer_to}
@@ -42,7 +43,7 @@ EventIsBankStep = (plan : Parts) (old : State) (n : ℕ) (new : State) → (even
 -- a machine can have memory for the bank that does the step, with what it records
 abbrev pub HasMemory : Parts → List Bank → Owed → Type 0
 HasMemory plan banks step =
-    (bank : Bank) → slice_get banks (home_for plan (length banks) step) ≡ Some bank → length (log_after plan bank.log step) + unclaimed_in (log_after plan bank.log step) < 2 ^ 57
+    (bank : Bank) → slice_get banks (home_for plan (length banks) step) ≡ Some bank → length (log_after plan bank.log step) + unclaimed_in (log_after plan bank.log step) < FACT_LIMIT
 
 -- an owed step of a balanced state has an outcome, where there is memory
 abbrev pub EventThere : Type 0

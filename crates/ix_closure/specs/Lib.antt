@@ -11,5 +11,4 @@ pub mod Quantity
 pub mod Ready
 pub mod Runs
 pub mod Seen
-pub mod TestPlans
 pub mod Tidy

@@ -1,10 +1,11 @@
 //! Worked examples and laws of the definitions. Each function's contract is the example or the law; the bodies are empty.
-ghost use Rattle.std.specs.Prelude.{◌≡◌, ◌≢◌, [], ◌∷◌, ◌++◌, ◌^◌, true, false, codes, replicate, None, Some, Contains};
+ghost use Rattle.std.specs.Prelude.{◌≡◌, ◌≢◌, [], ◌∷◌, ◌++◌, true, false, codes, replicate, None, Some, Contains};
 ghost use Rattle.ix_model.specs.Closure.Useful.{sub_at};
 ghost use Rattle.ix_examples.specs.SmallPlans.{cycle, insertion, nothing, only_a, two_alternatives, two_halves};
 ghost use Rattle.ix_cluster.specs.declared.answers.Arrived.TheVariants.{Fresh, Known};
 ghost use Rattle.ix_cluster.specs.declared.answers.Claimed.TheVariants.{Mine, Taken, Unknown};
 ghost use Rattle.ix_cluster.specs.declared.fact.Fact.TheVariants as fact;
+ghost use Rattle.ix_cluster.specs.declared.limits.TheConstants.{FACT_LIMIT};
 ghost use Rattle.ix_cluster.specs.BankSteps as call;
 ghost use Rattle.ix_closure.specs.declared.owed.Owed.TheVariants.{Claim, Edge, End, Arrive};
 ghost use Rattle.ix_closure.specs.Balance.{IsBalanced};
@@ -222,8 +223,8 @@ pub fn own_bank_does_the_step()
 /// A step asks for memory of its own bank, and of no other.
 pub fn memory_is_asked_of_the_home()
     ensures short { HasMemory (nothing []) nothing_begun.banks (Claim 0 0 0) }
-    ensures long { ¬ (HasMemory (nothing []) (alone (replicate (2 ^ 57) (fact.Called 0 0)) 0 []).banks (End 0 0 0)) }
-    ensures other_bank { HasMemory (nothing []) (two_banks nothing_called (replicate (2 ^ 57) (fact.Called 0 1)) []).banks (Claim 0 0 0) }
+    ensures long { ¬ (HasMemory (nothing []) (alone (replicate FACT_LIMIT (fact.Called 0 0)) 0 []).banks (End 0 0 0)) }
+    ensures other_bank { HasMemory (nothing []) (two_banks nothing_called (replicate FACT_LIMIT (fact.Called 0 1)) []).banks (Claim 0 0 0) }
 {}
 
 /// An owed step has one outcome, where there is memory.

@@ -1,11 +1,12 @@
 //! The four kinds of step, over a bank and the owed steps.
-ghost use Rattle.std.specs.Prelude.{◌≡◌, ℕ, ◌<◌, ◌≤◌, ◌+◌, ◌^◌, ◌++◌, List, [], length, remove, Option, Some, OnOk, OnErr};
+ghost use Rattle.std.specs.Prelude.{◌≡◌, ℕ, ◌<◌, ◌≤◌, ◌+◌, ◌++◌, List, [], length, remove, Option, Some, OnOk, OnErr};
 ghost use Rattle.std.specs.List.{All, cons_option};
 ghost use Rattle.std.specs.Vec.{vec_len, vec_capacity};
 ghost use Rattle.ix_model.specs.declared.grammar.Mark.{Mark};
 ghost use Rattle.ix_model.specs.declared.rules.Sym.TheVariants as sym;
 ghost use Rattle.ix_model.specs.Expansion.Slots.{sym_after};
 ghost use Rattle.ix_cluster.specs.declared.cluster.Edge.{Edge as Arc};
+ghost use Rattle.ix_cluster.specs.declared.limits.TheConstants.{FACT_LIMIT};
 ghost use Rattle.ix_cluster.specs.Room.{unclaimed_in};
 ghost use Rattle.ix_cluster.specs.Steps.{after_arrival, arrival_answer};
 ghost use Rattle.ix_closure.specs.declared.owed.Owed.{Owed as Step};
@@ -212,7 +213,7 @@ pub(crate) fn do_step(
     ensures owed { OnOk result (IsReplaced plan.now bank.old.log step owed.old.items n owed.new.items) }
     ensures err_bank { OnErr result (bank.new ≡ bank.old) }
     ensures err_owed { OnErr result (owed.new.items ≡ owed.old.items) }
-    ensures bounded { length bank.new.log + unclaimed_in bank.new.log < 2 ^ 57 }
+    ensures bounded { length bank.new.log + unclaimed_in bank.new.log < FACT_LIMIT }
 {
     let done = match step {
         Owed::Claim { slot, left, pos } => {

@@ -1,98 +1,9 @@
-ghost use Rattle.std.specs.Prelude.{◌≡◌, IfOk};
-ghost use Rattle.ix_model.specs.Expansion.Expanded.{line as a_line};
-ghost use Rattle.ix_model.specs.Expansion.Numbering.{slot};
-ghost use Rattle.ix_model.specs.Expansion.Planned.{IsPlanned};
-ghost use Rattle.ix_examples.specs.SmallPlans.{literal};
-ghost use Rattle.ix_closure.specs.TestPlans.{one_rule};
-
 use crate::{Core, Owed};
 use ix_cluster::{Banks, Fact};
-use ix_model::{Flat, Kind, Line, Mark, Plan, Rules, SlotInfo, Sub, Sym, Terminal, Text};
-use sqlite_items::Items;
+use ix_examples::plans::{BY_FIRST, only_a, sums};
+use ix_model::Plan;
 use std::alloc::{AllocError, Global};
 use std::test::Fail;
-
-fn literal(terminal: u32) -> Sym
-    ensures { result ≡ literal terminal }
-{
-    Sym::Term {
-        terminal,
-        shown: true,
-    }
-}
-
-const E: Sym = Sym::Rule {
-    rule: 0,
-    mark: None,
-};
-
-fn line(alloc: Global, syms: &[Sym]) -> Result<Line, AllocError>
-    ensures { IfOk result (λ l. l ≡ a_line syms.now) }
-{
-    Ok(Line {
-        syms: Items::from_slice(alloc, syms)?,
-    })
-}
-
-fn at(alt: u32, dot: u32) -> SlotInfo
-    ensures { result ≡ slot 0 alt dot }
-{
-    SlotInfo { head: 0, alt, dot }
-}
-
-// The plan of one rule E with the literals "1" and "+", for a text.
-fn plan_of(
-    alloc: Global,
-    lines: Items<Line>,
-    slots: &[SlotInfo],
-    text: &[char],
-) -> Result<Plan, AllocError>
-    requires { IsPlanned (one_rule lines slots.now text.now) }
-    ensures { IfOk result (λ plan. plan ≡ one_rule lines slots.now text.now) }
-{
-    let mut names = Items::new(alloc);
-    names.push(Text::from_slice(alloc, &['E'])?)?;
-    let mut flats = Items::new(alloc);
-    flats.push(Flat {
-        kind: Kind::Named,
-        lines,
-    })?;
-    let mut terminals = Items::new(alloc);
-    terminals.push(Terminal::Lit(Text::from_slice(alloc, &['1'])?))?;
-    terminals.push(Terminal::Lit(Text::from_slice(alloc, &['+'])?))?;
-    let rules = Rules {
-        names,
-        marks: Items::from_slice(alloc, &[Mark::Element])?,
-        flats,
-        terminals,
-        inserts: Items::new(alloc),
-    };
-    Ok(Plan::of(
-        rules,
-        Vec::from_slice(alloc, slots)?,
-        Vec::from_slice(alloc, text)?,
-    ))
-}
-
-// `E: "1".` on `1`.
-fn plan_of_one(alloc: Global) -> Result<Plan, AllocError> {
-    let mut lines = Items::new(alloc);
-    lines.push(line(alloc, &[literal(0)])?)?;
-    plan_of(alloc, lines, &[at(0, 0), at(0, 1)], &['1'])
-}
-
-// `E: E, "+", E; "1".` on `1+1+1`. The slots of the first alternative are 0 to 3, those of the second 4 and 5.
-fn plan_of_sum(alloc: Global) -> Result<Plan, AllocError> {
-    let mut lines = Items::new(alloc);
-    lines.push(line(alloc, &[E, literal(1), E])?)?;
-    lines.push(line(alloc, &[literal(0)])?)?;
-    plan_of(
-        alloc,
-        lines,
-        &[at(0, 0), at(0, 1), at(0, 2), at(0, 3), at(1, 0), at(1, 1)],
-        &['1', '+', '1', '+', '1'],
-    )
-}
 
 // All facts of the banks.
 fn facts_of(alloc: Global, banks: &Banks) -> Result<Vec<Fact>, AllocError> {
@@ -105,18 +16,10 @@ fn facts_of(alloc: Global, banks: &Banks) -> Result<Vec<Fact>, AllocError> {
     Ok(facts)
 }
 
-// The whole subtree of `E: "1".` on `1`.
-const ONE: Sub = Sub {
-    slot: 1,
-    left: 0,
-    pivot: 0,
-    right: 1,
-};
-
 #[test]
 fn steps_follow_from_one_another(rt: HostRuntime) -> Result<(), Fail> {
     let alloc = rt.alloc();
-    let plan = plan_of_one(alloc)?;
+    let plan = only_a(alloc, &['a'])?;
     let mut core = Core::begin(alloc, &plan)?;
     for want in [
         Owed::Claim {
@@ -124,7 +27,7 @@ fn steps_follow_from_one_another(rt: HostRuntime) -> Result<(), Fail> {
             left: 0,
             pos: 0,
         },
-        Owed::Arrive(ONE),
+        Owed::Arrive(BY_FIRST),
         Owed::Claim {
             slot: 1,
             left: 0,
@@ -158,7 +61,7 @@ fn steps_follow_from_one_another(rt: HostRuntime) -> Result<(), Fail> {
                 left: 0,
                 pos: 0
             },
-            Fact::Part(ONE),
+            Fact::Part(BY_FIRST),
             Fact::Desc {
                 slot: 1,
                 left: 0,
@@ -204,7 +107,7 @@ fn facts_by(alloc: Global, plan: &Plan, first: bool) -> Result<Vec<Fact>, AllocE
 #[test]
 fn two_orders_end_in_the_same_facts(rt: HostRuntime) -> Result<(), Fail> {
     let alloc = rt.alloc();
-    let plan = plan_of_sum(alloc)?;
+    let plan = sums(alloc, &['1', '+', '1', '+', '1'])?;
     let first = facts_by(alloc, &plan, true)?;
     let last = facts_by(alloc, &plan, false)?;
     // 3 calls, 6 edges, 6 ends, 21 descriptors and as many claims, and 16 subtrees.

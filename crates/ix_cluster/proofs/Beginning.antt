@@ -1,12 +1,12 @@
 -- The first slots of a rule, and the alternatives that begin with them.
-use Rattle.std.proofs.Common.{◌≡◌, ℕ, zero, suc, Option, None, Contains, is_none, subst, ◌+◌, ◌<◌, Bool, true, false, List, [], ◌∷◌, length, map, Some, slice_get, refl, sym, ap, ◌∙◌, arith}
-use Rattle.std.specs.List.{prefix_len, range_with_len}
+use Rattle.std.proofs.Common.{◌≡◌, ℕ, Option, None, Contains, is_none, subst, ◌+◌, ◌<◌, true, List, length, map, Some, slice_get, slice_index_or, refl, sym, ap, ◌∙◌, arith}
+use Rattle.std.specs.List.{range_with_len}
 use Rattle.std.proofs.lemmas.List.FromFn.{map-range_with_len_more, get_or-map-range_with_len, length-map-range_with_len}
-use Rattle.std.proofs.lemmas.List.Sums.{fold_push}
+use Rattle.std.proofs.lemmas.List.Sums.{fold_push, prefix_len_is}
 use Rattle.ix_model.specs.declared.grammar.Mark.{Mark}
 use Rattle.ix_model.specs.declared.rules.Sym.TheVariants.{Rule}
 use Rattle.std.proofs.lemmas.List.Elements.{Contains-get_or}
-use Rattle.std.proofs.lemmas.Option.{slice_get_within}
+use Rattle.std.proofs.lemmas.Option.{get_or_from_slice_get, slice_get-get_or, slice_get_within}
 use Rattle.ix_model.specs.declared.rules.Line.{Line}
 use Rattle.ix_model.specs.declared.rules.Sym.{Sym}
 use Rattle.ix_model.specs.Expansion.Parts.{Parts}
@@ -24,12 +24,6 @@ use Rattle.ix_cluster.specs.declared.fact.Fact.{Fact}
 use Rattle.ix_cluster.specs.Firsts.{first_slot, firsts_of, is_at_end}
 use Rattle.ix_cluster.specs.Steps.{after_first, after_firsts}
 
--- the front that passes ends at the first that does not
-prefix_is : {X : Type 0} (p : X → Bool) (xs : List X) (n : ℕ) (x : X) → slice_get xs n ≡ Some x → p x ≡ false → ((m : ℕ) (y : X) → m < n → slice_get xs m ≡ Some y → p y ≡ true) → prefix_len p xs ≡ n
-prefix_is p [] n x e h all = absurd (cc e)
-prefix_is p (y ∷ xs) zero x e h all = grind (arith, h, e)
-prefix_is p (y ∷ xs) (suc n) x e h all = grind (arith, all 0 y (omega arith) refl, prefix_is p xs n x e h (λ m z k. all (suc m) z (omega (arith, k))))
-
 none_is : (x : Option Sym) → is_none x ≡ true → x ≡ None
 none_is None e = refl
 none_is (Some x) e = absurd (cc e)
@@ -37,7 +31,11 @@ none_is (Some x) e = absurd (cc e)
 module _ (plan : Parts) (planned : IsPlanned plan) where
   -- the first slot of an alternative, by its place
   pub first_is_slot : (r a s : ℕ) → IsSlot plan s r a 0 → first_slot plan r a ≡ s
-  first_is_slot r a s at = prefix_is (is_before r a) plan.slots s (slot r a 0) at (start_itself r a) (λ m y k e. before_start r a y (order plan planned m s y (slot r a 0) k e at))
+  first_is_slot r a s at =
+      let here = slice_get_within plan.slots s (slot r a 0) at in
+      prefix_len_is (is_before r a) plan.slots s (slot r a 0) (omega (arith, here))
+      (λ m k. before_start r a (slice_index_or plan.slots m (slot r a 0)) (order plan planned m s _ (slot r a 0) k (slice_get-get_or plan.slots m (slot r a 0) (omega (arith, k, here))) at))
+      (λ _. ap (is_before r a) (get_or_from_slice_get plan.slots s (slot r a 0) (slot r a 0) at) ∙ start_itself r a)
 
   -- one more alternative begins
   pub next_begins : (r a s at : ℕ) (log before after : List Fact) → IsSlot plan s r a 0 → before ≡ after_firsts plan at (map (first_slot plan r) (range_with_len 0 a)) log → after ≡ after_first plan at before s → after ≡ after_firsts plan at (map (first_slot plan r) (range_with_len 0 (a + 1))) log

@@ -7,18 +7,17 @@ use Rattle.ix_cluster.specs.Facts.{has, put}
 use Rattle.ix_cluster.specs.Firsts.{is_at_end, firsts_of}
 use Rattle.ix_cluster.specs.Steps.{after_first, after_firsts, empty_sub, after_call}
 use Rattle.ix_cluster.proofs.Members.{put-keeps, put-there, put-from, Contains-has, first_has, rest_has, either_has, none_has}
+use Rattle.ix_cluster.proofs.Recording.{along_firsts, along_call}
 
 module _ (plan : Parts) (k : ℕ) where
   -- the fact is one that beginning the alternatives records
   unfoldable pub IsBegun : List ℕ → Fact → Type 0
   IsBegun firsts g = (s : ℕ) × Contains firsts s × ((Desc s k k ≡ g) ⊎ ((is_at_end plan s ≡ true) × (Part (empty_sub s k) ≡ g)))
 
-  first-keeps : (log : List Fact) (s : ℕ) (g : Fact) → Contains log g → Contains (after_first plan k log s) g
-  first-keeps log s g h = by (is_at_end plan s)
-    where
-      by : (b : Bool) → Contains (cond b (put (put log (Desc s k k)) (Part (empty_sub s k))) (put log (Desc s k k))) g
-      by true = put-keeps (put log (Desc s k k)) (Part (empty_sub s k)) g (put-keeps log (Desc s k k) g h)
-      by false = put-keeps log (Desc s k k) g h
+  -- what is there stays
+  firsts-keeps : (firsts : List ℕ) (log : List Fact) (g : Fact) → Contains log g → Contains (after_firsts plan k firsts log) g
+  firsts-keeps firsts log g =
+      along_firsts (λ before after. Contains before g → Contains after g) (λ _ h. h) (λ _ _ _ e w h. w (e h)) plan k (λ l s. put-keeps l (Desc s k k) g) (λ l s. put-keeps l (Part (empty_sub s k)) g) firsts log
 
   first-desc : (log : List Fact) (s : ℕ) → Contains (after_first plan k log s) (Desc s k k)
   first-desc log s = by (is_at_end plan s)
@@ -43,10 +42,6 @@ module _ (plan : Parts) (k : ℕ) where
             | inl o ↦ elim (put-from log (Desc s k k) g o) [ inl o' ↦ inl o' | inr n ↦ inr (s, first_has s ss, inl n) ]
             | inr n ↦ inr (s, first_has s ss, inr (e, n))
           ]
-
-  pub firsts-keeps : (firsts : List ℕ) (log : List Fact) (g : Fact) → Contains log g → Contains (after_firsts plan k firsts log) g
-  firsts-keeps [] log g h = h
-  firsts-keeps (s ∷ ss) log g h = firsts-keeps ss (after_first plan k log s) g (first-keeps log s g h)
 
   pub firsts-desc : (firsts : List ℕ) (log : List Fact) (s : ℕ) → Contains firsts s → Contains (after_firsts plan k firsts log) (Desc s k k)
   firsts-desc [] log s h = absurd (none_has s h)
@@ -77,11 +72,9 @@ module _ (plan : Parts) (k : ℕ) where
 
 module _ (plan : Parts) (log : List Fact) (r k : ℕ) where
   pub call-keeps : (g : Fact) → Contains log g → Contains (after_call plan log r k) g
-  call-keeps g h = by (has log (Called r k))
-    where
-      by : (b : Bool) → Contains (cond b log (after_firsts plan k (firsts_of plan r) (put log (Called r k)))) g
-      by true = h
-      by false = firsts-keeps plan k (firsts_of plan r) (put log (Called r k)) g (put-keeps log (Called r k) g h)
+  call-keeps g =
+      along_call (λ before after. Contains before g → Contains after g) (λ _ h. h) (λ _ _ _ e w h. w (e h)) plan k (λ l s. put-keeps l (Desc s k k) g) (λ l s. put-keeps l (Part (empty_sub s k)) g) r
+      (λ l. put-keeps l (Called r k) g) log
 
   pub call-there : Contains (after_call plan log r k) (Called r k)
   call-there = by (has log (Called r k)) refl

@@ -1,6 +1,5 @@
 -- Elements of a list by their places, where it grows and where one is written.
-use Rattle.std.proofs.Common.{◌≡◌, ◌≢◌, ℕ, zero, suc, List, [], ◌∷◌, ◌++◌, length, Some, slice_get, slice_set, refl, ap, subst, ◌⊎◌, inl, inr}
-use Rattle.std.specs.List.{AllByRecursion}
+use Rattle.std.proofs.Common.{◌≡◌, ◌≢◌, ℕ, zero, suc, List, [], ◌∷◌, ◌++◌, length, Some, slice_get, slice_set, refl, ap, ◌⊎◌, inl, inr}
 
 module _ {X : Type 0} where
   pub get-left : (xs ys : List X) (i : ℕ) (x : X) → slice_get xs i ≡ Some x → slice_get (xs ++ ys) i ≡ Some x
@@ -30,9 +29,3 @@ module _ {X : Type 0} where
   get-set_other (z ∷ xs) zero (suc j) y apart = refl
   get-set_other (z ∷ xs) (suc i) zero y apart = refl
   get-set_other (z ∷ xs) (suc i) (suc j) y apart = get-set_other xs i j y (λ e. apart (ap suc e))
-
-  -- what holds of all holds at each place
-  pub get-all : (P : X → Type 0) (xs : List X) (i : ℕ) (x : X) → AllByRecursion P xs → slice_get xs i ≡ Some x → P x
-  get-all P [] i x all h = absurd (cc h)
-  get-all P (y ∷ xs) zero x all h = let e : y ≡ x = (cc) in subst P e all.0
-  get-all P (y ∷ xs) (suc i) x all h = get-all P xs i x all.1 h

@@ -1,11 +1,11 @@
-use Rattle.std.proofs.Common.{◌≡◌, true, List, [], ◌∷◌, ◌++◌, refl, ap, ◌∙◌, rules, cond, ◌||◌}
+-- When two facts are the same.
+use Rattle.std.proofs.Common.{◌≡◌, true, List, [], ◌∷◌, refl, ap, ◌∙◌, rules, ◌||◌}
 use Rattle.std.specs.List.{list_any}
-use Rattle.indexmap.specs.IndexSet.{insert_key}
 use Rattle.ix_model.specs.declared.sub.Sub.{Sub}
 use Rattle.ix_cluster.specs.declared.fact.Fact.{Fact}
 use Rattle.ix_cluster.specs.declared.fact.Fact.TheVariants.{Called, Edge, End, Desc, Part, Claim}
 use Rattle.ix_cluster.specs.contracts.fact.FactPartialEq.TheImpl.{eq-value}
-use Rattle.ix_cluster.specs.Facts.{same_fact, same_sub, has, put}
+use Rattle.ix_cluster.specs.Facts.{same_fact, same_sub, has}
 
 -- the derived test of the program is the test of specs/
 pub eq-same_fact : (a b : Fact) → eq-value.it a b ≡ same_fact a b
@@ -40,6 +40,3 @@ same_fact-refl (Claim s l p) = search rules
 pub any-has : (log : List Fact) (f : Fact) → list_any (eq-value.it f) log ≡ has log f
 any-has [] f = refl
 any-has (g ∷ log) f = ap (λ b. b || list_any (eq-value.it f) log) (eq-same_fact f g) ∙ ap (λ b. same_fact f g || b) (any-has log f)
-
-pub insert_key-put : (log : List Fact) (f : Fact) → insert_key eq-value.it log f ≡ put log f
-insert_key-put log f = ap (λ b. cond b log (log ++ f ∷ [])) (any-has log f)

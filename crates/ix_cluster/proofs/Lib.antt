@@ -3,8 +3,10 @@ pub mod ButClaims
 pub mod CalledEdges
 pub mod Calls
 pub mod Consistency
+pub mod CountBy
 pub mod Counts
 pub mod Elements
+pub mod Equivalences
 pub mod FactLemmas
 pub mod Furthest
 pub mod Handing
@@ -13,6 +15,7 @@ pub mod Listing
 pub mod Marks
 pub mod Members
 pub mod Pairs
+pub mod Recording
 pub mod SmallBanks
 pub mod Soundness
 pub mod StepCases

@@ -1,5 +1,6 @@
 -- lists by cluster, through a write of one list
-use Rattle.std.proofs.Common.{◌≡◌, ◌<◌, ◌+◌, ℕ, suc, true, false, not, cond, List, [], ◌∷◌, ◌++◌, slice_get, unwrap_or, Option, Some, None, refl, sym, ap, ap₂, ◌∙◌, rules, arith, subst, ◌⊎◌, inl, inr, vec_len, vec_capacity}
+use Rattle.std.proofs.Common.{◌≡◌, ◌<◌, ◌+◌, ℕ, suc, true, false, not, cond, List, [], ◌∷◌, ◌++◌, slice_get, unwrap_or, Option, Some, None, refl, sym, ap, ap₂, ◌∙◌, rules, arith, ◌⊎◌, inl, inr, vec_len, vec_capacity}
+use Rattle.std.proofs.lemmas.Bool.{cases_Bool}
 use Rattle.std.specs.Cmp.{IsEquivalence}
 use Rattle.std.specs.List.{position_or_len}
 use Rattle.std.specs.declared.vec.Vec.{Vec}
@@ -10,7 +11,7 @@ use Rattle.indexmap.specs.IndexMap.{IndexMap, get, insert_index, IsUnique, inser
 use Rattle.indexmap.proofs.CallerLemmas.{updates-with_value_at}
 use Rattle.ix_cluster.specs.declared.cluster.Cluster.{Cluster}
 use Rattle.ix_cluster.specs.Lists.{same_cluster, list_at, PushesAt, KeepsLists, IsPlaceFor}
-use Rattle.ix_cluster.proofs.Counts.{either}
+use Rattle.ix_cluster.proofs.Equivalences.{equivalence}
 
 pub same_cluster-true : (a b : Cluster) → same_cluster a b ≡ true → a ≡ b
 same_cluster-true a b h = search rules
@@ -18,16 +19,8 @@ same_cluster-true a b h = search rules
 pub same_cluster-refl : (a : Cluster) → same_cluster a a ≡ true
 same_cluster-refl a = search rules
 
-pub same_cluster-symm : (a b : Cluster) → same_cluster a b ≡ same_cluster b a
-same_cluster-symm a b = by (either (same_cluster a b)) (either (same_cluster b a))
-  where
-    by : (same_cluster a b ≡ true) ⊎ (same_cluster a b ≡ false) → (same_cluster b a ≡ true) ⊎ (same_cluster b a ≡ false) → same_cluster a b ≡ same_cluster b a
-    by (inl e) other = subst (λ z. same_cluster a z ≡ same_cluster z a) (same_cluster-true a b e) refl
-    by (inr e) (inl o) = subst (λ z. same_cluster z b ≡ same_cluster b z) (same_cluster-true b a o) refl
-    by (inr e) (inr o) = e ∙ sym o
-
 pub same_cluster-equivalence : IsEquivalence same_cluster
-same_cluster-equivalence = record { refl = same_cluster-refl; symm = same_cluster-symm; congr = λ x y z e. ap (λ w. same_cluster w z) (same_cluster-true x y e) }
+same_cluster-equivalence = equivalence same_cluster same_cluster-true same_cluster-refl
 
 module _ {T A S : Type 0} (m n : IndexMap Cluster (Vec T A) S) (c : Cluster) (w : Vec T A)
     (writes : (q : Cluster) → get same_cluster n q ≡ cond (same_cluster c q) (Some w) (get same_cluster m q)) where
@@ -39,7 +32,7 @@ module _ {T A S : Type 0} (m n : IndexMap Cluster (Vec T A) S) (c : Cluster) (w 
 
   -- a write of the same elements keeps the lists
   pub KeepsLists-from_write : w.items ≡ list_at m c → KeepsLists m n
-  KeepsLists-from_write same d = by (either (same_cluster c d))
+  KeepsLists-from_write same d = by (cases_Bool (same_cluster c d))
     where
       by : (same_cluster c d ≡ true) ⊎ (same_cluster c d ≡ false) → list_at n d ≡ list_at m d
       by (inl e) = own d e ∙ same ∙ ap (list_at m) (same_cluster-true c d e)
@@ -47,7 +40,7 @@ module _ {T A S : Type 0} (m n : IndexMap Cluster (Vec T A) S) (c : Cluster) (w 
 
   -- a write of one more element pushes it
   pub PushesAt-from_write : (x : T) → w.items ≡ list_at m c ++ x ∷ [] → PushesAt m c x n
-  PushesAt-from_write x same d = by (either (same_cluster c d))
+  PushesAt-from_write x same d = by (cases_Bool (same_cluster c d))
     where
       by : (same_cluster c d ≡ true) ⊎ (same_cluster c d ≡ false) → list_at n d ≡ cond (same_cluster c d) (list_at m d ++ x ∷ []) (list_at m d)
       by (inl e) = own d e ∙ same ∙ ap (λ z. list_at m z ++ x ∷ []) (same_cluster-true c d e) ∙ sym (ap (λ b. cond b (list_at m d ++ x ∷ []) (list_at m d)) e)
@@ -69,7 +62,7 @@ module _ {T A S : Type 0} (m : IndexMap Cluster (Vec T A) S) (unique : IsUnique 
 -- the key that is inserted stands where it says
 place-inserted : {V : Type 0} (es : List (Cluster × V)) (c : Cluster) (w : V) → slice_get (insert_entry same_cluster es c w) (position_or_len (same_cluster c) (keys_of es)) ≡ Some (c, w)
 place-inserted [] c w = refl
-place-inserted (e ∷ es) c w = by (either (same_cluster c e.0)) (place-inserted es c w)
+place-inserted (e ∷ es) c w = by (cases_Bool (same_cluster c e.0)) (place-inserted es c w)
   where
     by : (same_cluster c e.0 ≡ true) ⊎ (same_cluster c e.0 ≡ false) → slice_get (insert_entry same_cluster es c w) (position_or_len (same_cluster c) (keys_of es)) ≡ Some (c, w) → slice_get (insert_entry same_cluster (e ∷ es) c w) (position_or_len (same_cluster c) (keys_of (e ∷ es))) ≡ Some (c, w)
     by (inl h) rest = ap (λ b. slice_get (cond b ((e.0, w) ∷ es) (e ∷ insert_entry same_cluster es c w)) (cond (not b) (1 + position_or_len (same_cluster c) (keys_of es)) 0)) h ∙ ap (λ z. Some (z, w)) (sym (same_cluster-true c e.0 h))

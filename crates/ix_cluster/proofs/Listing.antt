@@ -1,8 +1,9 @@
 -- the edges and ends of a log, as facts are recorded
-use Rattle.std.proofs.Common.{◌≡◌, ℕ, Bool, true, false, cond, List, [], ◌∷◌, ◌++◌, Option, Some, None, refl, sym, ap, ◌∙◌, arith, ◌⊎◌, inl, inr}
+use Rattle.std.proofs.Common.{◌≡◌, ℕ, Bool, true, false, cond, List, [], ◌∷◌, ◌++◌, Option, Some, None, refl, sym, ap, ◌∙◌, arith}
 use Rattle.std.specs.List.{filter_map, cons_option}
 use Rattle.std.specs.declared.vec.Vec.{Vec}
 use Rattle.std.proofs.lemmas.List.{append-nil}
+use Rattle.std.proofs.lemmas.List.Folds.{list_any-append}
 use Rattle.std.proofs.lemmas.List.Elements.{filter_map-append}
 use Rattle.indexmap.specs.IndexMap.{IndexMap}
 use Rattle.ix_model.specs.Expansion.Parts.{Parts}
@@ -12,51 +13,27 @@ use Rattle.ix_model.specs.declared.sub.Sub.{Sub}
 use Rattle.ix_cluster.specs.declared.fact.Fact.{Fact}
 use Rattle.ix_cluster.specs.declared.fact.Fact.TheVariants.{Called, Edge, End, Desc, Part, Claim}
 use Rattle.ix_cluster.specs.Facts.{same_fact, has, put}
-use Rattle.ix_cluster.specs.Firsts.{is_at_end, firsts_of}
 use Rattle.ix_cluster.specs.Lists.{cluster, same_cluster, list_at, PushesAt}
 use Rattle.ix_cluster.specs.Listed.{AreListed}
-use Rattle.ix_cluster.specs.Steps.{empty_sub, edge_of, end_of, edges_in, ends_in, after_first, after_firsts, after_call, after_claim, after_arrival}
-use Rattle.ix_cluster.proofs.Counts.{either, put-old, put-new, has-append}
+use Rattle.ix_cluster.specs.Steps.{empty_sub, edge_of, end_of, edges_in, ends_in, after_call, after_claim, after_arrival}
+use Rattle.ix_cluster.proofs.Counts.{put-new}
+use Rattle.ix_cluster.proofs.Recording.{put_both, claim_both, same_after_call}
 
 module _ {X : Type 0} (g : Fact → Option X) where
   pub kept-put : (log : List Fact) (f : Fact) → g f ≡ None → filter_map g (put log f) ≡ filter_map g log
-  kept-put log f none = by (either (has log f))
-    where
-      by : (has log f ≡ true) ⊎ (has log f ≡ false) → filter_map g (put log f) ≡ filter_map g log
-      by (inl e) = ap (filter_map g) (put-old log f e)
-      by (inr e) = ap (filter_map g) (put-new log f e) ∙ filter_map-append g log (f ∷ []) ∙ ap (λ o. filter_map g log ++ cons_option o []) none ∙ append-nil (filter_map g log)
+  kept-put log f none =
+      put_both (λ new. filter_map g new ≡ filter_map g log) log f (λ _. refl)
+      (λ _. filter_map-append g log (f ∷ []) ∙ ap (λ o. filter_map g log ++ cons_option o []) none ∙ append-nil (filter_map g log))
 
   pub pushed-put : (log : List Fact) (f : Fact) → has log f ≡ false → filter_map g (put log f) ≡ filter_map g log ++ cons_option (g f) []
   pushed-put log f e = ap (filter_map g) (put-new log f e) ∙ filter_map-append g log (f ∷ [])
 
   module _ (called : (r k : ℕ) → g (Called r k) ≡ None) (desc : (s l p : ℕ) → g (Desc s l p) ≡ None) (part : (sub : Sub) → g (Part sub) ≡ None) (claimed : (s l p : ℕ) → g (Claim s l p) ≡ None) where
-    pub kept-first : (plan : Parts) (k : ℕ) (log : List Fact) (s : ℕ) → filter_map g (after_first plan k log s) ≡ filter_map g log
-    kept-first plan k log s = by (is_at_end plan s)
-      where
-        entered : List Fact
-        entered = put log (Desc s k k)
-
-        by : (b : Bool) → filter_map g (cond b (put (put log (Desc s k k)) (Part (empty_sub s k))) (put log (Desc s k k))) ≡ filter_map g log
-        by true = kept-put (put log (Desc s k k)) (Part (empty_sub s k)) (part _) ∙ kept-put log (Desc s k k) (desc s k k)
-        by false = kept-put log (Desc s k k) (desc s k k)
-
-    pub kept-after_firsts : (plan : Parts) (k : ℕ) (firsts : List ℕ) (log : List Fact) → filter_map g (after_firsts plan k firsts log) ≡ filter_map g log
-    kept-after_firsts plan k [] log = refl
-    kept-after_firsts plan k (s ∷ ss) log = kept-after_firsts plan k ss (after_first plan k log s) ∙ kept-first plan k log s
-
     pub kept-call : (plan : Parts) (log : List Fact) (r k : ℕ) → filter_map g (after_call plan log r k) ≡ filter_map g log
-    kept-call plan log r k = by (has log (Called r k))
-      where
-        by : (b : Bool) → filter_map g (cond b log (after_firsts plan k (firsts_of plan r) (put log (Called r k)))) ≡ filter_map g log
-        by true = refl
-        by false = kept-after_firsts plan k (firsts_of plan r) (put log (Called r k)) ∙ kept-put log (Called r k) (called r k)
+    kept-call plan log r k = same_after_call (filter_map g) plan r k (λ l s. kept-put l (Desc s k k) (desc s k k)) (λ l s. kept-put l (Part (empty_sub s k)) (part _)) (λ l. kept-put l (Called r k) (called r k)) log
 
     pub kept-claim : (log : List Fact) (s l p : ℕ) → filter_map g (after_claim log s l p) ≡ filter_map g log
-    kept-claim log s l p = by (has log (Desc s l p))
-      where
-        by : (b : Bool) → filter_map g (cond b (put log (Claim s l p)) log) ≡ filter_map g log
-        by true = kept-put log (Claim s l p) (claimed s l p)
-        by false = refl
+    kept-claim log s l p = claim_both (λ new. filter_map g new ≡ filter_map g log) log s l p (λ _. kept-put log (Claim s l p) (claimed s l p)) refl
 
     pub kept-arrive : (log : List Fact) (sub : Sub) → filter_map g (after_arrival log sub) ≡ filter_map g log
     kept-arrive log sub = kept-put (put log (Part sub)) (Desc sub.slot sub.left sub.right) (desc _ _ _) ∙ kept-put log (Part sub) (part sub)
@@ -99,31 +76,13 @@ module _ {A B S T : Type 0} (log : List Fact) (edges : IndexMap Cluster (Vec Arc
 
 -- a log has another fact as before
 pub has-put_other : (log : List Fact) (f g : Fact) → same_fact g f ≡ false → has (put log f) g ≡ has log g
-has-put_other log f g apart = by (either (has log f))
-  where
-    by : (has log f ≡ true) ⊎ (has log f ≡ false) → has (put log f) g ≡ has log g
-    by (inl e) = ap (λ l. has l g) (put-old log f e)
-    by (inr e) = ap (λ l. has l g) (put-new log f e) ∙ grind (arith, has-append log (f ∷ []) g)
+has-put_other log f g apart = put_both (λ new. has new g ≡ has log g) log f (λ _. refl) (λ _. grind (arith, list_any-append (same_fact g) log (f ∷ [])))
 
--- entering alternatives records no edge
-module _ (r' k' s' l' : ℕ) where
-  has-first_edge : (plan : Parts) (k : ℕ) (log : List Fact) (s : ℕ) → has (after_first plan k log s) (Edge r' k' s' l') ≡ has log (Edge r' k' s' l')
-  has-first_edge plan k log s = by (is_at_end plan s)
-    where
-      by : (b : Bool) → has (cond b (put (put log (Desc s k k)) (Part (empty_sub s k))) (put log (Desc s k k))) (Edge r' k' s' l') ≡ has log (Edge r' k' s' l')
-      by true = has-put_other (put log (Desc s k k)) (Part (empty_sub s k)) (Edge r' k' s' l') refl ∙ has-put_other log (Desc s k k) (Edge r' k' s' l') refl
-      by false = has-put_other log (Desc s k k) (Edge r' k' s' l') refl
-
-  has-enter_edge : (plan : Parts) (k : ℕ) (firsts : List ℕ) (log : List Fact) → has (after_firsts plan k firsts log) (Edge r' k' s' l') ≡ has log (Edge r' k' s' l')
-  has-enter_edge plan k [] log = refl
-  has-enter_edge plan k (s ∷ ss) log = has-enter_edge plan k ss (after_first plan k log s) ∙ has-first_edge plan k log s
-
-  pub has-call_edge : (plan : Parts) (log : List Fact) (r k : ℕ) → has (after_call plan log r k) (Edge r' k' s' l') ≡ has log (Edge r' k' s' l')
-  has-call_edge plan log r k = by (has log (Called r k))
-    where
-      by : (b : Bool) → has (cond b log (after_firsts plan k (firsts_of plan r) (put log (Called r k)))) (Edge r' k' s' l') ≡ has log (Edge r' k' s' l')
-      by true = refl
-      by false = has-enter_edge plan k (firsts_of plan r) (put log (Called r k)) ∙ has-put_other log (Called r k) (Edge r' k' s' l') refl
+-- a call records no edge
+pub has-call_edge : (r' k' s' l' : ℕ) (plan : Parts) (log : List Fact) (r k : ℕ) → has (after_call plan log r k) (Edge r' k' s' l') ≡ has log (Edge r' k' s' l')
+has-call_edge r' k' s' l' plan log r k =
+    let edge = Edge r' k' s' l' in
+    same_after_call (λ l. has l edge) plan r k (λ l s. has-put_other l (Desc s k k) edge refl) (λ l s. has-put_other l (Part (empty_sub s k)) edge refl) (λ l. has-put_other l (Called r k) edge refl) log
 
 -- an empty map lists nothing
 pub list_at-empty : {T A S : Type 0} (m : IndexMap Cluster (Vec T A) S) (c : Cluster) → m.entries ≡ [] → list_at m c ≡ []

@@ -1,14 +1,16 @@
 -- The log as numbered facts with marks for claims, as facts are recorded and claimed.
-use Rattle.std.proofs.Common.{◌≡◌, ℕ, zero, suc, ◌+◌, ◌-◌, ◌≤◌, ◌<◌, ◌^◌, Bool, true, false, not, cond, ◌||◌, List, [], ◌∷◌, ◌++◌, length, length-append, filter, Some, Contains, slice_get, slice_set, slice_index_or, position, refl, sym, ap, ap₂, ◌∙◌, subst, arith, true≢false, ◌⊎◌, inl, inr}
+use Rattle.std.proofs.Common.{◌≡◌, ℕ, ◌+◌, ◌-◌, ◌≤◌, ◌<◌, Bool, true, false, not, cond, ◌||◌, List, [], ◌∷◌, ◌++◌, length, length-append, filter, Some, Contains, slice_get, slice_set, slice_index_or, position, refl, sym, ap, ap₂, ◌∙◌, subst, arith, true≢false, ◌⊎◌, inl, inr}
 use Rattle.std.specs.List.{IsDistinct}
 use Rattle.std.specs.Option.{option_map}
-use Rattle.std.proofs.lemmas.List.{get_or_append_left, append-nil, length-set, length-map}
+use Rattle.std.proofs.lemmas.List.{get_or_append_left, append-nil, length-set, length-map, map-append}
 use Rattle.std.proofs.lemmas.List.Quantifiers.{position-Some}
+use Rattle.std.proofs.lemmas.List.Folds.{list_any-append}
 use Rattle.std.proofs.lemmas.List.Elements.{filter-append, Contains-push_cases}
-use Rattle.std.proofs.lemmas.Map.Keys.{IsDistinct-head, IsDistinct-tail, IsDistinct-push}
-use Rattle.std.proofs.lemmas.Bool.{cases_eq}
-use Rattle.std.proofs.lemmas.Option.{get_or_from_slice_get, slice_get_within, slice_get-map, slice_get_read, slice_get-get_or}
+use Rattle.std.proofs.lemmas.Map.Keys.{apart_from_distinct, IsDistinct-push}
+use Rattle.std.proofs.lemmas.Bool.{cases_Bool, cases_eq, cases_lt, false_from_ne_true}
+use Rattle.std.proofs.lemmas.Option.{get_or_from_slice_get, slice_get_within, slice_get-map, slice_get_read, slice_get-get_or, same_Some}
 use Rattle.std.proofs.Math.Seq.{get_or-append_seam}
+use Rattle.ix_cluster.specs.declared.limits.TheConstants.{FACT_LIMIT}
 use Rattle.ix_cluster.specs.declared.fact.Fact.{Fact}
 use Rattle.ix_cluster.specs.declared.fact.Fact.TheVariants.{Called, Desc, Claim}
 use Rattle.ix_cluster.specs.contracts.fact.FactPartialEq.TheImpl.{eq-value}
@@ -20,22 +22,22 @@ use Rattle.ix_cluster.specs.LogPlaces.{is_no_claim, as_claim, number_of, fact_at
 use Rattle.ix_cluster.specs.Room.{is_unclaimed, unclaimed_in, HasRoom}
 use Rattle.ix_cluster.specs.Steps.{claim_answer, after_claim}
 use Rattle.ix_cluster.proofs.ButClaims.{has-but_claims, once-filter}
-use Rattle.ix_cluster.proofs.Counts.{either, has-append, has-push_new, has-push_old, put-old, put-new, length-put, unclaimed-put_other, unclaimed-some, unclaimed-claim, HasRoom-put}
-use Rattle.ix_cluster.proofs.Elements.{get-left, get-last, get-push, get-set_same, get-set_other, get-all}
+use Rattle.ix_cluster.proofs.Counts.{has-push_new, has-push_old, put-old, put-new, length-put, unclaimed-put_other, unclaimed-some, unclaimed-claim, HasRoom-put}
+use Rattle.ix_cluster.proofs.Elements.{get-left, get-last, get-push, get-set_same, get-set_other}
 use Rattle.ix_cluster.proofs.FactLemmas.{eq-same_fact, same_fact-true, same_fact-refl}
-use Rattle.ix_cluster.proofs.Members.{first_has, rest_has, none_has, has-Contains, same_fact-equivalence}
+use Rattle.ix_cluster.proofs.Members.{first_has, rest_has, nth_has, none_has, has-Contains, same_fact-equivalence}
 
 -- a fact stands at one place of a list that has each once
-one_place : (facts : List Fact) (i j : ℕ) (f : Fact) → IsDistinct same_fact facts → slice_get facts i ≡ Some f → slice_get facts j ≡ Some f → i ≡ j
-one_place [] i j f once hi hj = absurd (cc hi)
-one_place (g ∷ facts) zero zero f once hi hj = refl
-one_place (g ∷ facts) zero (suc j) f once hi hj =
-    let e : g ≡ f = (cc) in
-    absurd (true≢false (sym (same_fact-refl f) ∙ subst (λ z. same_fact z f ≡ false) e (get-all (λ y. same_fact g y ≡ false) facts j f (IsDistinct-head same_fact g facts once) hj)))
-one_place (g ∷ facts) (suc i) zero f once hi hj =
-    let e : g ≡ f = (cc) in
-    absurd (true≢false (sym (same_fact-refl f) ∙ subst (λ z. same_fact z f ≡ false) e (get-all (λ y. same_fact g y ≡ false) facts i f (IsDistinct-head same_fact g facts once) hi)))
-one_place (g ∷ facts) (suc i) (suc j) f once hi hj = ap suc (one_place facts i j f (IsDistinct-tail same_fact g facts once) hi hj)
+module _ (facts : List Fact) (f : Fact) (once : IsDistinct same_fact facts) where
+  not_before : (i j : ℕ) → slice_get facts i ≡ Some f → slice_get facts j ≡ Some f → i < j → ⊥
+  not_before i j hi hj less =
+      true≢false (sym (same_fact-refl f) ∙ sym (ap₂ same_fact (get_or_from_slice_get facts i f f hi) (get_or_from_slice_get facts j f f hj)) ∙ apart_from_distinct same_fact facts i j f once less (slice_get_within facts j f hj))
+
+  one_place : (i j : ℕ) → slice_get facts i ≡ Some f → slice_get facts j ≡ Some f → i ≡ j
+  one_place i j hi hj = elim (cases_lt i j) [
+    | inl less ↦ absurd (not_before i j hi hj less)
+    | inr le ↦ elim (cases_lt j i) [ inl less ↦ absurd (not_before j i hj hi less) | inr ge ↦ omega (arith, le, ge) ]
+  ]
 
 -- where the test of the program finds a fact
 pub found-at : (facts : List Fact) (n : ℕ) (f : Fact) → position (eq-value.it f) facts ≡ Some n → slice_get facts n ≡ Some f
@@ -56,17 +58,13 @@ log_of-push : (facts : List Fact) (f : Fact) (places : List Place) → AreWithin
 log_of-push facts f [] within = refl
 log_of-push facts f (p ∷ places) within = ap₂ ◌∷◌ (fact_at-push facts f p (within p (first_has p places))) (log_of-push facts f places (λ q h. within q (rest_has p places q h)))
 
-log_of-append : (facts : List Fact) (places more : List Place) → log_of facts (places ++ more) ≡ log_of facts places ++ log_of facts more
-log_of-append facts [] more = refl
-log_of-append facts (p ∷ places) more = ap (λ l. fact_at facts p ∷ l) (log_of-append facts places more)
-
 log_of-came : (facts : List Fact) (f : Fact) (places : List Place) → AreWithin facts places → log_of (facts ++ f ∷ []) (places ++ Came (length facts) ∷ []) ≡ log_of facts places ++ f ∷ []
 log_of-came facts f places within =
-    log_of-append (facts ++ f ∷ []) places (Came (length facts) ∷ []) ∙
+    map-append (fact_at (facts ++ f ∷ [])) places (Came (length facts) ∷ []) ∙
     ap₂ (λ l x. l ++ x ∷ []) (log_of-push facts f places within) (get_or-append_seam facts f [] (Called 0 0))
 
 log_of-claimed : (facts : List Fact) (places : List Place) (n : ℕ) (f : Fact) → slice_get facts n ≡ Some f → log_of facts (places ++ Claimed n ∷ []) ≡ log_of facts places ++ as_claim f ∷ []
-log_of-claimed facts places n f h = log_of-append facts places (Claimed n ∷ []) ∙ ap (λ x. log_of facts places ++ as_claim x ∷ []) (get_or_from_slice_get facts n f (Called 0 0) h)
+log_of-claimed facts places n f h = map-append (fact_at facts) places (Claimed n ∷ []) ∙ ap (λ x. log_of facts places ++ as_claim x ∷ []) (get_or_from_slice_get facts n f (Called 0 0) h)
 
 within-push : (facts facts' : List Fact) (places : List Place) (p : Place) → length facts ≤ length facts' → AreWithin facts places → number_of p < length facts' → AreWithin facts' (places ++ p ∷ [])
 within-push facts facts' places p longer within here q h = by (Contains-push_cases places p q h)
@@ -78,9 +76,6 @@ within-push facts facts' places p longer within here q h = by (Contains-push_cas
 or_false : (b : Bool) → (b || false) ≡ b
 or_false true = refl
 or_false false = refl
-
-some_same : {X : Type 0} {x y : X} → Some x ≡ Some y → x ≡ y
-some_same e = (cc)
 
 -- what is read at a place
 module _ (facts : List Fact) (marks : List Bool) (places : List Place) (is : AreMarked facts marks places) (n : ℕ) (p : Place) (seen : p ≡ slice_index_or places n p) (here : n < length (log_of facts places)) where
@@ -95,7 +90,7 @@ module _ (facts : List Fact) (marks : List Bool) (places : List Place) (is : Are
 
 -- what a fact that is no claim adds is no claim
 push-claims : (log : List Fact) (f : Fact) (s l p : ℕ) → is_no_claim f ≡ true → has (log ++ f ∷ []) (Claim s l p) ≡ has log (Claim s l p)
-push-claims log f s l p h = has-append log (f ∷ []) (Claim s l p) ∙ ap (λ b. has log (Claim s l p) || (b || false)) (apart f h) ∙ or_false (has log (Claim s l p))
+push-claims log f s l p h = list_any-append (same_fact (Claim s l p)) log (f ∷ []) ∙ ap (λ b. has log (Claim s l p) || (b || false)) (apart f h) ∙ or_false (has log (Claim s l p))
   where
     apart : (g : Fact) → is_no_claim g ≡ true → same_fact (Claim s l p) g ≡ false
     apart (Claim s' l' p') e = absurd (true≢false (sym e))
@@ -130,11 +125,7 @@ module _ (facts : List Fact) (marks : List Bool) (places : List Place) (is : Are
 
     -- a descriptor that is new has no claim
     not_claimed : (s l p : ℕ) → f ≡ Desc s l p → has (log_of facts places) (Claim s l p) ≡ false
-    not_claimed s l p e = by (either (has (log_of facts places) (Claim s l p)))
-      where
-        by : (has (log_of facts places) (Claim s l p) ≡ true) ⊎ (has (log_of facts places) (Claim s l p) ≡ false) → has (log_of facts places) (Claim s l p) ≡ false
-        by (inl t) = absurd (true≢false (sym (is.claims s l p t) ∙ subst (λ z. has facts z ≡ false) e new))
-        by (inr n) = n
+    not_claimed s l p e = false_from_ne_true (has (log_of facts places) (Claim s l p)) (λ t. true≢false (sym (is.claims s l p t) ∙ subst (λ z. has facts z ≡ false) e new))
 
     pub AreMarked-push : AreMarked (facts ++ f ∷ []) (marks ++ false ∷ []) (places ++ Came (length facts) ∷ [])
     AreMarked-push = record {
@@ -160,7 +151,7 @@ module _ (facts : List Fact) (marks : List Bool) (places : List Place) (is : Are
     log_of-claim = log_of-claimed facts places n (Desc s l p) at
 
     pub has-descriptor : has facts (Desc s l p) ≡ true
-    has-descriptor = has-Contains facts (Desc s l p) (n, slice_get_within facts n (Desc s l p) at, get_or_from_slice_get facts n (Desc s l p) (Desc s l p) at)
+    has-descriptor = has-Contains facts (Desc s l p) (nth_has facts n (Desc s l p) at)
 
     pub AreMarked-claim : has (log_of facts places) (Claim s l p) ≡ false → AreMarked facts (slice_set marks n true) (places ++ Claimed n ∷ [])
     AreMarked-claim new = record {
@@ -173,7 +164,7 @@ module _ (facts : List Fact) (marks : List Bool) (places : List Place) (is : Are
     }
       where
         has_now : (f : Fact) → has (log_of facts (places ++ Claimed n ∷ [])) f ≡ (has (log_of facts places) f || has (Claim s l p ∷ []) f)
-        has_now f = ap (λ z. has z f) log_of-claim ∙ has-append (log_of facts places) (Claim s l p ∷ []) f
+        has_now f = ap (λ z. has z f) log_of-claim ∙ list_any-append (same_fact f) (log_of facts places) (Claim s l p ∷ [])
 
         marked : (m s' l' p' : ℕ) → slice_get facts m ≡ Some (Desc s' l' p') → slice_get (slice_set marks n true) m ≡ Some (has (log_of facts (places ++ Claimed n ∷ [])) (Claim s' l' p'))
         marked m s' l' p' h = by (cases_eq m n)
@@ -181,20 +172,19 @@ module _ (facts : List Fact) (marks : List Bool) (places : List Place) (is : Are
             here : Claim s l p ≡ Claim s' l' p' → has (log_of facts (places ++ Claimed n ∷ [])) (Claim s' l' p') ≡ true
             here e = ap (λ z. has z (Claim s' l' p')) log_of-claim ∙ subst (λ z. has (log_of facts places ++ Claim s l p ∷ []) z ≡ true) e (has-push_new (log_of facts places) (Claim s l p))
 
-            apart : (m ≡ n → ⊥) → (same_fact (Desc s' l' p') (Desc s l p) ≡ true) ⊎ (same_fact (Desc s' l' p') (Desc s l p) ≡ false) → same_fact (Desc s' l' p') (Desc s l p) ≡ false
-            apart ne (inl t) = absurd (ne (one_place facts m n (Desc s l p) facts-once (h ∙ ap Some (same_fact-true (Desc s' l' p') (Desc s l p) t)) at))
-            apart ne (inr e) = e
+            apart : (m ≡ n → ⊥) → same_fact (Desc s' l' p') (Desc s l p) ≡ false
+            apart ne = false_from_ne_true (same_fact (Desc s' l' p') (Desc s l p)) (λ t. ne (one_place facts (Desc s l p) facts-once m n (h ∙ ap Some (same_fact-true (Desc s' l' p') (Desc s l p) t)) at))
 
             by : (m ≡ n) ⊎ (m ≡ n → ⊥) → slice_get (slice_set marks n true) m ≡ Some (has (log_of facts (places ++ Claimed n ∷ [])) (Claim s' l' p'))
             by (inl e) =
-                let same : Desc s l p ≡ Desc s' l' p' = some_same (sym at ∙ ap (slice_get facts) (sym e) ∙ h) in
+                let same : Desc s l p ≡ Desc s' l' p' = same_Some (Desc s l p) (Desc s' l' p') (sym at ∙ ap (slice_get facts) (sym e) ∙ h) in
                 ap (slice_get (slice_set marks n true)) e ∙ get-set_same marks n _ true (is.marked n s l p at) ∙ ap Some (sym (here (ap as_claim same)))
             by (inr ne) =
                 get-set_other marks n m true (λ e. ne (sym e)) ∙ is.marked m s' l' p' h ∙
-                ap Some (sym (has_now (Claim s' l' p') ∙ ap (λ b. has (log_of facts places) (Claim s' l' p') || (b || false)) (apart ne (either (same_fact (Desc s' l' p') (Desc s l p)))) ∙ or_false (has (log_of facts places) (Claim s' l' p'))))
+                ap Some (sym (has_now (Claim s' l' p') ∙ ap (λ b. has (log_of facts places) (Claim s' l' p') || (b || false)) (apart ne) ∙ or_false (has (log_of facts places) (Claim s' l' p'))))
 
         claims : (s' l' p' : ℕ) → has (log_of facts (places ++ Claimed n ∷ [])) (Claim s' l' p') ≡ true → has facts (Desc s' l' p') ≡ true
-        claims s' l' p' h = by (either (has (log_of facts places) (Claim s' l' p'))) (either (same_fact (Claim s' l' p') (Claim s l p)))
+        claims s' l' p' h = by (cases_Bool (has (log_of facts places) (Claim s' l' p'))) (cases_Bool (same_fact (Claim s' l' p') (Claim s l p)))
           where
             by : (has (log_of facts places) (Claim s' l' p') ≡ true) ⊎ (has (log_of facts places) (Claim s' l' p') ≡ false) → (same_fact (Claim s' l' p') (Claim s l p) ≡ true) ⊎ (same_fact (Claim s' l' p') (Claim s l p) ≡ false) → has facts (Desc s' l' p') ≡ true
             by (inl t) other = is.claims s' l' p' t
@@ -268,16 +258,6 @@ add-zero : (n : ℕ) → n + 0 ≡ n
 add-zero n = omega arith
 
 module _ (facts : List Fact) (marks : List Bool) (places : List Place) (fact_room mark_room place_room unclaimed free : ℕ) (is : IsLog facts marks places fact_room mark_room place_room unclaimed free) where
-  -- more room is no harm
-  pub IsLog-room : (fact_room' mark_room' place_room' free' : ℕ) → free' ≤ fact_room' → free' ≤ mark_room' → unclaimed + free' ≤ place_room' → length facts + free' ≤ 2 ^ 32 → length (log_of facts places) + unclaimed + free' < 2 ^ 57 → IsLog facts marks places fact_room' mark_room' place_room' unclaimed free'
-  IsLog-room fact_room' mark_room' place_room' free' f m r n s = record {
-    are_marked = is.are_marked;
-    room = record { counted = is.room.counted; room = r; small = s };
-    facts_fit = f;
-    marks_fit = m;
-    numbers = n;
-  }
-
   -- a fact that is no claim is put into it, with one more claim to come at most
   module _ (f : Fact) (plain : is_no_claim f ≡ true) (added : Bool) (facts' : List Fact) (marks' : List Bool) (places' : List Place) (said : added ≡ not (has facts f)) (facts_are : facts' ≡ put facts f) (marks_are : marks' ≡ cond added (marks ++ false ∷ []) marks) (places_are : places' ≡ cond added (places ++ Came (length facts) ∷ []) places) where
     pub added-log : added ≡ not (has (log_of facts places) f)
@@ -288,7 +268,7 @@ module _ (facts : List Fact) (marks : List Bool) (places : List Place) (fact_roo
     Made fs ms ps = AreMarked fs ms ps × (log_of fs ps ≡ put (log_of facts places) f)
 
     outcome : Made facts' marks' places'
-    outcome = by (either (has facts f))
+    outcome = by (cases_Bool (has facts f))
       where
         moved : (fs : List Fact) (ms : List Bool) (ps : List Place) → facts' ≡ fs → marks' ≡ ms → places' ≡ ps → Made fs ms ps → Made facts' marks' places'
         moved fs ms ps a b c made = subst (λ z. Made z marks' places') (sym a) (subst (λ z. Made fs z places') (sym b) (subst (λ z. Made fs ms z) (sym c) made))
@@ -321,5 +301,5 @@ module _ (facts : List Fact) (marks : List Bool) (places : List Place) (fact_roo
         subst (λ u. IsLog facts' marks' places' fact_room' mark_room' place_room' u (free - 2)) (add-zero unclaimed)
         (IsLog-put fact_room' mark_room' place_room' 0 fr mr pr two (omega arith) (omega (arith, unclaimed-put_other (log_of facts places) f other)))
 
-  pub IsLog-bounded : length (log_of facts places) + unclaimed_in (log_of facts places) < 2 ^ 57
+  pub IsLog-bounded : length (log_of facts places) + unclaimed_in (log_of facts places) < FACT_LIMIT
   IsLog-bounded = omega (arith, is.room.counted, is.room.small)

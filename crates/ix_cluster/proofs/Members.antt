@@ -1,12 +1,14 @@
--- What a list has, and what a log has after a fact is put into it.
-use Rattle.std.proofs.Common.{◌≡◌, zero, suc, Bool, true, false, cond, List, [], ◌∷◌, ◌++◌, Contains, refl, sym, ap, ◌∙◌, arith, subst, ◌⊎◌, inl, inr, true≢false}
+-- What a list has, by std's lemmas at an element in front, and what a log has after a fact is put into it.
+use Rattle.std.proofs.Common.{◌≡◌, ℕ, zero, suc, true, List, [], ◌∷◌, Contains, Some, slice_get, arith, subst, ◌⊎◌, inl, inr}
 use Rattle.std.specs.Cmp.{IsEquivalence}
 use Rattle.std.proofs.lemmas.List.Elements.{Contains-append_left, Contains-append_right, Contains-append_cases, Contains-push, Contains-push_cases}
 use Rattle.std.proofs.lemmas.Map.Views.{list_any-from_Contains, Contains-from_any}
+use Rattle.std.proofs.lemmas.Option.{get_or_from_slice_get, slice_get_within}
 use Rattle.ix_cluster.specs.declared.fact.Fact.{Fact}
 use Rattle.ix_cluster.specs.Facts.{same_fact, has, put}
 use Rattle.ix_cluster.proofs.FactLemmas.{same_fact-true, same_fact-refl}
-use Rattle.ix_cluster.proofs.Counts.{either, put-new}
+use Rattle.ix_cluster.proofs.Recording.{put_both}
+use Rattle.ix_cluster.proofs.Equivalences.{equivalence}
 
 module _ {X : Type 0} where
   -- a list of one has that one alone
@@ -27,29 +29,14 @@ module _ {X : Type 0} where
   pub each_has : (P : X → Type 0) (y : X) (ys : List X) → P y → ((x : X) → Contains ys x → P x) → (x : X) → Contains (y ∷ ys) x → P x
   each_has P y ys here rest x h = elim (either_has y ys x h) [ inl e ↦ subst P e here | inr n ↦ rest x n ]
 
+  pub nth_has : (xs : List X) (n : ℕ) (x : X) → slice_get xs n ≡ Some x → Contains xs x
+  nth_has xs n x e = (n, slice_get_within xs n x e, get_or_from_slice_get xs n x x e)
+
   pub none_has : (x : X) → Contains [] x → ⊥
   none_has x h = omega (arith, h.1)
 
-same_fact-false : (a b : Fact) → same_fact a b ≡ false → same_fact b a ≡ false
-same_fact-false a b e = by (either (same_fact b a))
-  where
-    by : (same_fact b a ≡ true) ⊎ (same_fact b a ≡ false) → same_fact b a ≡ false
-    by (inl t) = absurd (true≢false (sym (same_fact-refl a) ∙ subst (λ z. same_fact a z ≡ false) (same_fact-true b a t) e))
-    by (inr f) = f
-
-same_fact-symm : (a b : Fact) → same_fact a b ≡ same_fact b a
-same_fact-symm a b = by (either (same_fact a b))
-  where
-    by : (same_fact a b ≡ true) ⊎ (same_fact a b ≡ false) → same_fact a b ≡ same_fact b a
-    by (inl t) = subst (λ z. same_fact a z ≡ same_fact z a) (same_fact-true a b t) refl
-    by (inr f) = f ∙ sym (same_fact-false a b f)
-
 pub same_fact-equivalence : IsEquivalence same_fact
-same_fact-equivalence = record {
-  refl = same_fact-refl;
-  symm = same_fact-symm;
-  congr = λ x y z e. ap (λ w. same_fact w z) (same_fact-true x y e);
-}
+same_fact-equivalence = equivalence same_fact same_fact-true same_fact-refl
 
 -- the test of a log finds what it has
 pub has-Contains : (log : List Fact) (f : Fact) → Contains log f → has log f ≡ true
@@ -59,22 +46,10 @@ pub Contains-has : (log : List Fact) (f : Fact) → has log f ≡ true → Conta
 Contains-has log f h = Contains-from_any same_fact-true f log h
 
 pub put-keeps : (log : List Fact) (f g : Fact) → Contains log g → Contains (put log f) g
-put-keeps log f g h = by (has log f)
-  where
-    by : (b : Bool) → Contains (cond b log (log ++ f ∷ [])) g
-    by true = h
-    by false = Contains-append_left log (f ∷ []) g h
+put-keeps log f g h = put_both (λ new. Contains new g) log f (λ _. h) (λ _. Contains-append_left log (f ∷ []) g h)
 
 pub put-there : (log : List Fact) (f : Fact) → Contains (put log f) f
-put-there log f = by (either (has log f))
-  where
-    by : (has log f ≡ true) ⊎ (has log f ≡ false) → Contains (put log f) f
-    by (inl e) = put-keeps log f f (Contains-has log f e)
-    by (inr e) = subst (λ l. Contains l f) (sym (put-new log f e)) (Contains-push log f)
+put-there log f = put_both (λ new. Contains new f) log f (Contains-has log f) (λ _. Contains-push log f)
 
 pub put-from : (log : List Fact) (f g : Fact) → Contains (put log f) g → Contains log g ⊎ (f ≡ g)
-put-from log f g h = by (has log f) h
-  where
-    by : (b : Bool) → Contains (cond b log (log ++ f ∷ [])) g → Contains log g ⊎ (f ≡ g)
-    by true a = inl a
-    by false a = Contains-push_cases log f g a
+put-from log f g = put_both (λ new. Contains new g → Contains log g ⊎ (f ≡ g)) log f (λ _. inl) (λ _. Contains-push_cases log f g)

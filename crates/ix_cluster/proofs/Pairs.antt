@@ -1,5 +1,6 @@
 -- The pairs of a log, cluster by cluster.
-use Rattle.std.proofs.Common.{◌≡◌, ℕ, suc, ◌+◌, ◌*◌, Bool, true, false, cond, List, [], ◌∷◌, length, Contains, Some, None, refl, sym, ap, ◌∙◌, arith, subst, true≢false, ◌⊎◌, inl, inr}
+use Rattle.std.proofs.Common.{◌≡◌, ℕ, suc, ◌+◌, ◌*◌, true, false, cond, List, [], ◌∷◌, length, count_by, Contains, Some, None, refl, sym, ap, ◌∙◌, arith, subst, true≢false, ◌⊎◌, inl, inr}
+use Rattle.std.proofs.lemmas.Bool.{cases_Bool}
 use Rattle.std.specs.List.{cons_option, sum_by, IsDistinct, AllByRecursion}
 use Rattle.std.proofs.lemmas.List.Sums.{sum_by-cons}
 use Rattle.std.proofs.lemmas.Map.Keys.{IsDistinct-head, IsDistinct-tail}
@@ -9,27 +10,11 @@ use Rattle.ix_cluster.specs.declared.fact.Fact.TheVariants.{Called, Edge, End, D
 use Rattle.ix_cluster.specs.Handed.{meets, pair_count}
 use Rattle.ix_cluster.specs.Laws.{edges_times_ends, PairsAreByCluster}
 use Rattle.ix_cluster.specs.Lists.{cluster, same_cluster}
-use Rattle.ix_cluster.specs.Room.{tally}
 use Rattle.ix_cluster.specs.Steps.{edges_in, ends_in}
-use Rattle.ix_cluster.proofs.Counts.{either}
-use Rattle.ix_cluster.proofs.Handing.{ends-met, edges-met, tally-none, called-none, desc-none, part-none, claim-none}
-use Rattle.ix_cluster.proofs.ListLemmas.{same_cluster-true, same_cluster-refl, same_cluster-symm}
+use Rattle.ix_cluster.proofs.CountBy.{count_none}
+use Rattle.ix_cluster.proofs.Handing.{ends-met, edges-met, meets-symm}
+use Rattle.ix_cluster.proofs.ListLemmas.{same_cluster-true, same_cluster-refl}
 use Rattle.ix_cluster.proofs.Members.{first_has, rest_has, either_has, none_has}
-
--- two facts meet, whichever comes first
-meets-symm : (f g : Fact) → meets f g ≡ meets g f
-meets-symm (Edge r k s l) (End r' k' e) = same_cluster-symm (cluster r k) (cluster r' k')
-meets-symm (End r k e) (Edge r' k' s l) = same_cluster-symm (cluster r k) (cluster r' k')
-meets-symm (Edge r k s l) g = refl
-meets-symm (End r k e) g = refl
-meets-symm (Called r k) g = sym (called-none r k g)
-meets-symm (Desc s l p) g = sym (desc-none s l p g)
-meets-symm (Part sub) g = sym (part-none sub g)
-meets-symm (Claim s l p) g = sym (claim-none s l p g)
-
-tally-same : (p q : Fact → Bool) → ((x : Fact) → p x ≡ q x) → (xs : List Fact) → tally p xs ≡ tally q xs
-tally-same p q same [] = refl
-tally-same p q same (x ∷ xs) = grind (arith, tally-same p q same xs, same x)
 
 -- ---- sums that differ at one cluster
 
@@ -41,7 +26,7 @@ module _ (f g : Cluster → ℕ) (c : Cluster) (apart : (d : Cluster) → same_c
   -- what one cluster has more, the sum has more
   sum-more : (n : ℕ) → g c ≡ f c + n → (ds : List Cluster) → IsDistinct same_cluster ds → Contains ds c → sum_by g ds ≡ sum_by f ds + n
   sum-more n more [] once here = absurd (none_has c here)
-  sum-more n more (d ∷ ds) once here = by (either (same_cluster c d)) (sum-more n more ds (IsDistinct-tail same_cluster d ds once))
+  sum-more n more (d ∷ ds) once here = by (cases_Bool (same_cluster c d)) (sum-more n more ds (IsDistinct-tail same_cluster d ds once))
     where
       by : (same_cluster c d ≡ true) ⊎ (same_cluster c d ≡ false) → (Contains ds c → sum_by g ds ≡ sum_by f ds + n) → sum_by g (d ∷ ds) ≡ sum_by f (d ∷ ds) + n
       by (inl e) rest =
@@ -89,25 +74,25 @@ module _ (clusters : List Cluster) (once : IsDistinct same_cluster clusters) whe
   pairs_by_cluster : (log : List Fact) → ((r k s l : ℕ) → Contains log (Edge r k s l) → Contains clusters (cluster r k)) → ((r k e : ℕ) → Contains log (End r k e) → Contains clusters (cluster r k)) → pair_count log ≡ sum_by (edges_times_ends log) clusters
   pairs_by_cluster [] edges ends = sym (none-sum clusters)
   pairs_by_cluster (Called r' k' ∷ log) edges ends =
-      omega (arith, tally-none (meets (Called r' k')) (λ g. refl) log, pairs_by_cluster log (λ r k s l h. edges r k s l (rest_has (Called r' k') log _ h)) (λ r k e h. ends r k e (rest_has (Called r' k') log _ h)))
+      omega (arith, count_none (meets (Called r' k')) log (λ g _. refl), pairs_by_cluster log (λ r k s l h. edges r k s l (rest_has (Called r' k') log _ h)) (λ r k e h. ends r k e (rest_has (Called r' k') log _ h)))
   pairs_by_cluster (Edge r' k' s' l' ∷ log) edges ends =
       let at = cluster r' k' in
-      let met = tally-same (meets (Edge r' k' s' l')) (λ g. meets g (Edge r' k' s' l')) (λ g. meets-symm (Edge r' k' s' l') g) log ∙ ends-met log r' k' s' l' in
+      let met = (λ i. count_by (λ g. meets-symm (Edge r' k' s' l') g i) log) ∙ ends-met log r' k' s' l' in
       let more : edges_times_ends (Edge r' k' s' l' ∷ log) at ≡ edges_times_ends log at + length (ends_in log at) = edge_more log r' k' s' l' in
       let sum = sum-more (edges_times_ends log) (edges_times_ends (Edge r' k' s' l' ∷ log)) at (cluster_apart_edges log r' k' s' l') (length (ends_in log at)) more clusters once (edges r' k' s' l' (first_has (Edge r' k' s' l') log)) in
       omega (arith, met, sum, pairs_by_cluster log (λ r k s l h. edges r k s l (rest_has (Edge r' k' s' l') log _ h)) (λ r k e h. ends r k e (rest_has (Edge r' k' s' l') log _ h)))
   pairs_by_cluster (End r' k' e' ∷ log) edges ends =
       let at = cluster r' k' in
-      let met = tally-same (meets (End r' k' e')) (λ g. meets g (End r' k' e')) (λ g. meets-symm (End r' k' e') g) log ∙ edges-met log r' k' e' in
+      let met = (λ i. count_by (λ g. meets-symm (End r' k' e') g i) log) ∙ edges-met log r' k' e' in
       let more : edges_times_ends (End r' k' e' ∷ log) at ≡ edges_times_ends log at + length (edges_in log at) = end_more log r' k' e' in
       let sum = sum-more (edges_times_ends log) (edges_times_ends (End r' k' e' ∷ log)) at (cluster_apart_ends log r' k' e') (length (edges_in log at)) more clusters once (ends r' k' e' (first_has (End r' k' e') log)) in
       omega (arith, met, sum, pairs_by_cluster log (λ r k s l h. edges r k s l (rest_has (End r' k' e') log _ h)) (λ r k e h. ends r k e (rest_has (End r' k' e') log _ h)))
   pairs_by_cluster (Desc s' l' p' ∷ log) edges ends =
-      omega (arith, tally-none (meets (Desc s' l' p')) (λ g. refl) log, pairs_by_cluster log (λ r k s l h. edges r k s l (rest_has (Desc s' l' p') log _ h)) (λ r k e h. ends r k e (rest_has (Desc s' l' p') log _ h)))
+      omega (arith, count_none (meets (Desc s' l' p')) log (λ g _. refl), pairs_by_cluster log (λ r k s l h. edges r k s l (rest_has (Desc s' l' p') log _ h)) (λ r k e h. ends r k e (rest_has (Desc s' l' p') log _ h)))
   pairs_by_cluster (Part sub ∷ log) edges ends =
-      omega (arith, tally-none (meets (Part sub)) (λ g. refl) log, pairs_by_cluster log (λ r k s l h. edges r k s l (rest_has (Part sub) log _ h)) (λ r k e h. ends r k e (rest_has (Part sub) log _ h)))
+      omega (arith, count_none (meets (Part sub)) log (λ g _. refl), pairs_by_cluster log (λ r k s l h. edges r k s l (rest_has (Part sub) log _ h)) (λ r k e h. ends r k e (rest_has (Part sub) log _ h)))
   pairs_by_cluster (Claim s' l' p' ∷ log) edges ends =
-      omega (arith, tally-none (meets (Claim s' l' p')) (λ g. refl) log, pairs_by_cluster log (λ r k s l h. edges r k s l (rest_has (Claim s' l' p') log _ h)) (λ r k e h. ends r k e (rest_has (Claim s' l' p') log _ h)))
+      omega (arith, count_none (meets (Claim s' l' p')) log (λ g _. refl), pairs_by_cluster log (λ r k s l h. edges r k s l (rest_has (Claim s' l' p') log _ h)) (λ r k e h. ends r k e (rest_has (Claim s' l' p') log _ h)))
 
 pub pairs_are_by_cluster : PairsAreByCluster
 pairs_are_by_cluster log clusters of = pairs_by_cluster clusters of.once log of.edges of.ends

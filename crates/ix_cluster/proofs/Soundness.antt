@@ -1,5 +1,6 @@
 -- The steps of a bank keep it sound.
-use Rattle.std.proofs.Common.{◌≡◌, ℕ, ◌+◌, ◌<◌, ◌^◌, zero, suc, Bool, true, false, cond, List, [], ◌∷◌, ◌++◌, length, take, Contains, Some, slice_get, refl, sym, ap, ◌∙◌, arith, subst, ◌⊎◌, inl, inr}
+use Rattle.std.proofs.Common.{◌≡◌, ℕ, ◌+◌, ◌<◌, Bool, true, false, cond, List, [], ◌∷◌, ◌++◌, length, take, Contains, Some, slice_get, refl, sym, ap, ◌∙◌, arith, subst, ◌⊎◌, inl, inr}
+use Rattle.std.proofs.lemmas.Bool.{cases_Bool}
 use Rattle.std.specs.List.{IsDistinct}
 use Rattle.std.proofs.lemmas.List.{take_at, take-append-le}
 use Rattle.std.proofs.lemmas.List.Elements.{Contains-push_cases}
@@ -11,8 +12,8 @@ use Rattle.ix_model.specs.Expansion.Planned.{IsPlanned}
 use Rattle.ix_model.specs.Expansion.Slots.{info_at}
 use Rattle.ix_model.specs.Expansion.SlotPlaces.{IsFirstSlot, IsLastSlot}
 use Rattle.ix_model.specs.Closure.Closed as closed
-use Rattle.ix_model.proofs.Numbers.{get_split}
 use Rattle.ix_model.proofs.SlotReaders.{first_reads}
+use Rattle.ix_cluster.specs.declared.limits.TheConstants.{FACT_LIMIT}
 use Rattle.ix_cluster.specs.declared.cluster.Edge.{Edge as Arc}
 use Rattle.ix_cluster.specs.declared.fact.Fact.{Fact}
 use Rattle.ix_cluster.specs.declared.fact.Fact.TheVariants.{Called, Edge, End, Desc, Part, Claim}
@@ -28,9 +29,11 @@ use Rattle.ix_cluster.specs.Sound.{AreTrue, HasCompanions, IsSoundBank}
 use Rattle.ix_cluster.specs.Steps.{empty_sub, after_first, after_firsts, after_call, after_claim, after_arrival, after_edge, edges_in, ends_in, end_answer, edge_answer}
 use Rattle.ix_cluster.proofs.Beginning.{firsts_have, firsts_are, ends_at_once, at_end_of}
 use Rattle.ix_cluster.proofs.Calls.{IsBegun, call-keeps, call-there, call-from, call-desc, call-part}
-use Rattle.ix_cluster.proofs.Counts.{either, put-old, put-new}
+use Rattle.ix_cluster.proofs.Counts.{put-old}
+use Rattle.ix_cluster.proofs.Elements.{get-push}
 use Rattle.ix_cluster.proofs.Handing.{handed-claim, handed-arrive, handed-after_end, handed-after_edge, handed-call}
 use Rattle.ix_cluster.proofs.Members.{same_fact-equivalence, put-keeps, put-there, put-from, Contains-has, first_has, rest_has, none_has}
+use Rattle.ix_cluster.proofs.Recording.{put_both}
 
 -- ---- what holds fact by fact
 
@@ -52,27 +55,17 @@ module _ (plan : Parts) (count m : ℕ) where
     at_home = λ g c. elim (Contains-push_cases log f g c) [ inl o ↦ good.at_home g o | inr e ↦ subst (λ z. home_of plan count z ≡ m) e may.at_home ];
     true_facts = record {
       closed = λ g c. elim (Contains-push_cases log f g c) [ inl o ↦ good.true_facts.closed g o | inr e ↦ subst (IsInClosed plan) e may.closed ];
-      later = λ n s l p e. by n s l p (get_split log (f ∷ []) n (Claim s l p) e);
+      later = λ n s l p e. by n s l p (get-push log f n (Claim s l p) e);
     };
   }
     where
-      last : (k s l p : ℕ) → slice_get (f ∷ []) k ≡ Some (Claim s l p) → (k ≡ 0) × (f ≡ Claim s l p)
-      last zero s l p e = (refl, cc e)
-      last (suc k) s l p e = absurd (cc e)
-
-      by : (n s l p : ℕ) → (slice_get log n ≡ Some (Claim s l p)) ⊎ ((k : ℕ) × (n ≡ length log + k) × (slice_get (f ∷ []) k ≡ Some (Claim s l p))) → Contains (take n (log ++ f ∷ [])) (Desc s l p)
+      by : (n s l p : ℕ) → (slice_get log n ≡ Some (Claim s l p)) ⊎ ((n ≡ length log) × (f ≡ Claim s l p)) → Contains (take n (log ++ f ∷ [])) (Desc s l p)
       by n s l p (inl e) =
           subst (λ (xs : List Fact). Contains xs (Desc s l p)) (sym (take-append-le n log (f ∷ []) (omega (arith, slice_get_within log n (Claim s l p) e)))) (good.true_facts.later n s l p e)
-      by n s l p (inr h) =
-          let w = last h.0 s l p h.2 in
-          subst (λ (xs : List Fact). Contains xs (Desc s l p)) (sym (take_at log (f ∷ []) n (omega (arith, h.1, w.0)))) (may.later s l p w.1)
+      by n s l p (inr h) = subst (λ (xs : List Fact). Contains xs (Desc s l p)) (sym (take_at log (f ∷ []) n (omega (arith, h.0)))) (may.later s l p h.1)
 
   pub good-put : (log : List Fact) (f : Fact) → MayCome log f → IsGood log → IsGood (put log f)
-  good-put log f may good = by (either (has log f))
-    where
-      by : (has log f ≡ true) ⊎ (has log f ≡ false) → IsGood (put log f)
-      by (inl e) = subst IsGood (sym (put-old log f e)) good
-      by (inr e) = subst IsGood (sym (put-new log f e)) (good-push log f e may good)
+  good-put log f may good = put_both IsGood log f (λ _. good) (λ e. good-push log f e may good)
 
   -- ---- a call
 
@@ -202,7 +195,7 @@ module _ (plan : Parts) (count m : ℕ) where
   good_of : (bank : Bank) → IsSoundBank plan count m bank → IsGood plan count m bank.log
   good_of bank sound = record { once = sound.once; at_home = sound.at_home; true_facts = sound.true_facts }
 
-  sound_from : (old new : Bank) → IsSoundBank plan count m old → IsGood plan count m new.log → HasCompanions plan new.log → ((f : Fact) → Contains old.log f → Contains new.log f) → new.handed ≡ pair_count new.log → length new.log + unclaimed_in new.log < 2 ^ 57 → IsSoundBank plan count m new
+  sound_from : (old new : Bank) → IsSoundBank plan count m old → IsGood plan count m new.log → HasCompanions plan new.log → ((f : Fact) → Contains old.log f → Contains new.log f) → new.handed ≡ pair_count new.log → length new.log + unclaimed_in new.log < FACT_LIMIT → IsSoundBank plan count m new
   sound_from old new sound good companions keeps handed bounded = record {
     once = good.once;
     at_home = good.at_home;
@@ -240,7 +233,7 @@ module _ (plan : Parts) (count m : ℕ) where
         by false = h
         by true = put-keeps log (Claim s l p) f h
 
-  pub sound-claim : (old new : Bank) (s l p : ℕ) → new.log ≡ after_claim old.log s l p → new.handed ≡ old.handed → length new.log + unclaimed_in new.log < 2 ^ 57 → IsSoundBank plan count m old → IsSoundBank plan count m new
+  pub sound-claim : (old new : Bank) (s l p : ℕ) → new.log ≡ after_claim old.log s l p → new.handed ≡ old.handed → length new.log + unclaimed_in new.log < FACT_LIMIT → IsSoundBank plan count m old → IsSoundBank plan count m new
   sound-claim old new s l p e h bounded sound =
       sound_from old new sound
       (subst (IsGood plan count m) (sym e) (claim-good old.log s l p (good_of old sound)))
@@ -250,7 +243,7 @@ module _ (plan : Parts) (count m : ℕ) where
       bounded
 
   -- an arrival
-  pub sound-arrival : (old new : Bank) (sub : Sub) → new.log ≡ after_arrival old.log sub → new.handed ≡ old.handed → length new.log + unclaimed_in new.log < 2 ^ 57 → home (info_at plan sub.slot).head sub.left count ≡ m → closed.Part plan sub.slot sub.left sub.pivot sub.right → IsSoundBank plan count m old → IsSoundBank plan count m new
+  pub sound-arrival : (old new : Bank) (sub : Sub) → new.log ≡ after_arrival old.log sub → new.handed ≡ old.handed → length new.log + unclaimed_in new.log < FACT_LIMIT → home (info_at plan sub.slot).head sub.left count ≡ m → closed.Part plan sub.slot sub.left sub.pivot sub.right → IsSoundBank plan count m old → IsSoundBank plan count m new
   sound-arrival old new sub e h bounded here part sound =
       sound_from old new sound
       (subst (IsGood plan count m) (sym e) (good-put plan count m (put old.log (Part sub)) (Desc sub.slot sub.left sub.right) desc (good-put plan count m old.log (Part sub) itself (good_of old sound))))
@@ -267,13 +260,13 @@ module _ (plan : Parts) (count m : ℕ) where
 
   -- an end
   end-handed : (log : List Fact) (r k e handed : ℕ) (edges : List Arc) → handed ≡ pair_count log → edges ≡ end_answer log r k e → handed + length edges ≡ pair_count (put log (End r k e))
-  end-handed log r k e handed edges h a = by (either (has log (End r k e)))
+  end-handed log r k e handed edges h a = by (cases_Bool (has log (End r k e)))
     where
       by : (has log (End r k e) ≡ true) ⊎ (has log (End r k e) ≡ false) → handed + length edges ≡ pair_count (put log (End r k e))
       by (inl w) = let none : edges ≡ [] = a ∙ ap (λ b. cond b [] (edges_in log (cluster r k))) w in omega (arith, h, ap length none, ap pair_count (put-old log (End r k e) w))
       by (inr w) = let all : edges ≡ edges_in log (cluster r k) = a ∙ ap (λ b. cond b [] (edges_in log (cluster r k))) w in handed-after_end log (put log (End r k e)) r k e handed (length edges) w refl h (ap length all)
 
-  pub sound-end : (old new : Bank) (r k e : ℕ) (edges : List Arc) → new.log ≡ put old.log (End r k e) → edges ≡ end_answer old.log r k e → new.handed ≡ old.handed + length edges → length new.log + unclaimed_in new.log < 2 ^ 57 → home r k count ≡ m → closed.End plan r k e → IsSoundBank plan count m old → IsSoundBank plan count m new
+  pub sound-end : (old new : Bank) (r k e : ℕ) (edges : List Arc) → new.log ≡ put old.log (End r k e) → edges ≡ end_answer old.log r k e → new.handed ≡ old.handed + length edges → length new.log + unclaimed_in new.log < FACT_LIMIT → home r k count ≡ m → closed.End plan r k e → IsSoundBank plan count m old → IsSoundBank plan count m new
   sound-end old new r k e edges w a h bounded here end sound =
       sound_from old new sound
       (subst (IsGood plan count m) (sym w) (good-put plan count m old.log (End r k e) (record { at_home = here; closed = end; later = λ s l p z. absurd (cc z) }) (good_of old sound)))
@@ -284,7 +277,7 @@ module _ (plan : Parts) (count m : ℕ) where
 
   -- an edge
   edge-handed : (log : List Fact) (r k s l handed : ℕ) (ends : List ℕ) → handed ≡ pair_count log → ends ≡ edge_answer log r k s l → handed + length ends ≡ pair_count (after_edge plan log r k s l)
-  edge-handed log r k s l handed ends h a = by (either (has log (Edge r k s l)))
+  edge-handed log r k s l handed ends h a = by (cases_Bool (has log (Edge r k s l)))
     where
       by : (has log (Edge r k s l) ≡ true) ⊎ (has log (Edge r k s l) ≡ false) → handed + length ends ≡ pair_count (after_edge plan log r k s l)
       by (inl w) =
@@ -295,7 +288,7 @@ module _ (plan : Parts) (count m : ℕ) where
           handed-after_edge plan log (put (after_call plan log r k) (Edge r k s l)) r k s l handed (length ends) w refl h (ap length all) ∙
           sym (ap (λ b. pair_count (cond b log (put (after_call plan log r k) (Edge r k s l)))) w)
 
-  pub sound-edge : IsPlanned plan → (old new : Bank) (r k s l : ℕ) (ends : List ℕ) → r < length plan.rules.flats → new.log ≡ after_edge plan old.log r k s l → ends ≡ edge_answer old.log r k s l → new.handed ≡ old.handed + length ends → length new.log + unclaimed_in new.log < 2 ^ 57 → home r k count ≡ m → closed.Edge plan r k s l → IsSoundBank plan count m old → IsSoundBank plan count m new
+  pub sound-edge : IsPlanned plan → (old new : Bank) (r k s l : ℕ) (ends : List ℕ) → r < length plan.rules.flats → new.log ≡ after_edge plan old.log r k s l → ends ≡ edge_answer old.log r k s l → new.handed ≡ old.handed + length ends → length new.log + unclaimed_in new.log < FACT_LIMIT → home r k count ≡ m → closed.Edge plan r k s l → IsSoundBank plan count m old → IsSoundBank plan count m new
   sound-edge planned old new r k s l ends there w a h bounded here edge sound =
       sound_from old new sound
       (subst (IsGood plan count m) (sym w) good)
@@ -352,20 +345,8 @@ module _ (plan : Parts) (count m : ℕ) where
     edges = λ r k s l h. absurd (nothing (Edge r k s l) h);
   }
 
-  -- a bank with no fact, where it is not the home of the first call
-  pub sound-empty : (home 0 0 count ≡ m → ⊥) → IsSoundBank plan count m (record { log = []; handed = 0 })
-  sound-empty other = record {
-    once = good-nothing.once;
-    at_home = good-nothing.at_home;
-    true_facts = good-nothing.true_facts;
-    companions = companions-nothing;
-    handed = refl;
-    opened = λ e. absurd (other e);
-    bounded = omega arith;
-  }
-
   -- a bank in which the first rule is called
-  pub sound-begin : IsPlanned plan → home 0 0 count ≡ m → length (after_call plan [] 0 0) + unclaimed_in (after_call plan [] 0 0) < 2 ^ 57 → IsSoundBank plan count m (record { log = after_call plan [] 0 0; handed = 0 })
+  pub sound-begin : IsPlanned plan → home 0 0 count ≡ m → length (after_call plan [] 0 0) + unclaimed_in (after_call plan [] 0 0) < FACT_LIMIT → IsSoundBank plan count m (record { log = after_call plan [] 0 0; handed = 0 })
   sound-begin planned here bounded =
       let there : 0 < length plan.rules.flats = omega (arith, planned.first_named, planned.names_within) in
       let good = good-call plan count m planned 0 0 here closed.start [] there good-nothing in
@@ -381,15 +362,7 @@ module _ (plan : Parts) (count m : ℕ) where
 
   -- one more sound bank
   pub sound-push : (banks : List Bank) (bank : Bank) (n : ℕ) → length banks ≡ n → ((i : ℕ) (b : Bank) → slice_get banks i ≡ Some b → IsSoundBank plan count i b) → IsSoundBank plan count n bank → (i : ℕ) (b : Bank) → slice_get (banks ++ bank ∷ []) i ≡ Some b → IsSoundBank plan count i b
-  sound-push banks bank n len each sound i b e = by (get_split banks (bank ∷ []) i b e)
-    where
-      last : (k : ℕ) → slice_get (bank ∷ []) k ≡ Some b → (k ≡ 0) × (bank ≡ b)
-      last zero w = (refl, cc w)
-      last (suc k) w = absurd (cc w)
-
-      by : (slice_get banks i ≡ Some b) ⊎ ((k : ℕ) × (i ≡ length banks + k) × (slice_get (bank ∷ []) k ≡ Some b)) → IsSoundBank plan count i b
-      by (inl o) = each i b o
-      by (inr h) =
-          let w = last h.0 h.2 in
-          let here : n ≡ i = omega (arith, h.1, w.0, len) in
-          subst (λ (j : ℕ). IsSoundBank plan count j b) here (subst (IsSoundBank plan count n) w.1 sound)
+  sound-push banks bank n len each sound i b e = elim (get-push banks bank i b e) [
+    | inl o ↦ each i b o
+    | inr h ↦ subst (λ (j : ℕ). IsSoundBank plan count j b) (sym len ∙ sym h.0) (subst (IsSoundBank plan count n) h.1 sound)
+  ]

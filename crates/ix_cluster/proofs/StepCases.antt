@@ -10,13 +10,14 @@ use Rattle.ix_cluster.specs.declared.fact.Fact.{Fact}
 use Rattle.ix_cluster.specs.declared.fact.Fact.TheVariants.{Called, Edge, End, Desc, Part, Claim}
 use Rattle.ix_cluster.specs.BankSteps.{Call, AddEdge, AddEnd, Arrive, MakeClaim, Answer, Opens, Meets, Arrives, Belongs, BankStep, edge_calls, edge_joins, edge_again, end_comes, end_again, sub_fresh, sub_known, claim_mine, claim_taken, claim_unknown}
 use Rattle.ix_cluster.specs.Facts.{has, put}
-use Rattle.ix_cluster.specs.Firsts.{firsts_of, is_at_end}
+use Rattle.ix_cluster.specs.Firsts.{firsts_of}
 use Rattle.ix_cluster.specs.LogPlaces.{is_no_claim}
 use Rattle.ix_cluster.specs.Lists.{cluster}
 use Rattle.ix_cluster.specs.StepAnswers.{answer_to, after_step}
-use Rattle.ix_cluster.specs.Steps.{empty_sub, after_first, after_firsts, after_call, edges_in, ends_in, after_edge, edge_is_first, edge_answer, end_answer, after_arrival, arrival_answer, after_claim, claim_answer}
+use Rattle.ix_cluster.specs.Steps.{after_firsts, after_call, edges_in, ends_in, after_edge, edge_is_first, edge_answer, end_answer, after_arrival, arrival_answer, after_claim, claim_answer}
 use Rattle.ix_cluster.proofs.Counts.{put-old, put-new}
 use Rattle.ix_cluster.proofs.Listing.{has-call_edge, has-put_other}
+use Rattle.ix_cluster.proofs.Recording.{put_both, along_step}
 
 module _ (plan : Parts) (log : List Fact) where
   -- the step with an answer and a log after that are those of another
@@ -127,37 +128,11 @@ grown_further : (log middle after : List Fact) → Grown log middle → Grown mi
 grown_further log middle after a b = (a.0 ++ b.0, b.1 ∙ ap (λ z. z ++ b.0) a.1 ∙ append_assoc log a.0 b.0)
 
 grown_put : (log : List Fact) (f : Fact) → Grown log (put log f)
-grown_put log f = by (has log f)
-  where
-    by : (b : Bool) → Grown log (cond b log (log ++ f ∷ []))
-    by true = grown_itself log
-    by false = (f ∷ [], refl)
+grown_put log f = put_both (Grown log) log f (λ _. grown_itself log) (λ _. (f ∷ [], refl))
 
 module _ (plan : Parts) where
-  grown_first : (k : ℕ) (log : List Fact) (s : ℕ) → Grown log (after_first plan k log s)
-  grown_first k log s = by (is_at_end plan s)
-    where
-      by : (b : Bool) → Grown log (cond b (put (put log (Desc s k k)) (Part (empty_sub s k))) (put log (Desc s k k)))
-      by true = grown_further log (put log (Desc s k k)) (put (put log (Desc s k k)) (Part (empty_sub s k))) (grown_put log (Desc s k k)) (grown_put (put log (Desc s k k)) (Part (empty_sub s k)))
-      by false = grown_put log (Desc s k k)
-
-  grown_firsts : (k : ℕ) (firsts : List ℕ) (log : List Fact) → Grown log (after_firsts plan k firsts log)
-  grown_firsts k [] log = grown_itself log
-  grown_firsts k (s ∷ ss) log = grown_further log (after_first plan k log s) (after_firsts plan k (s ∷ ss) log) (grown_first k log s) (grown_firsts k ss (after_first plan k log s))
-
   pub step_appends : (log : List Fact) (call : Call) (answer : Answer) (after : List Fact) → BankStep plan log call answer after → (more : List Fact) × (after ≡ log ++ more)
-  step_appends log call answer after (edge_calls r k s l e w) =
-      let called = grown_further log (log ++ Called r k ∷ []) (after_firsts plan k (firsts_of plan r) (log ++ Called r k ∷ [])) (Called r k ∷ [], refl) (grown_firsts k (firsts_of plan r) (log ++ Called r k ∷ [])) in
-      grown_further log (after_firsts plan k (firsts_of plan r) (log ++ Called r k ∷ [])) after called (Edge r k s l ∷ [], refl)
-  step_appends log call answer after (edge_joins r k s l e w) = (Edge r k s l ∷ [], refl)
-  step_appends log call answer after (edge_again r k s l e) = grown_itself log
-  step_appends log call answer after (end_comes r k e h) = (End r k e ∷ [], refl)
-  step_appends log call answer after (end_again r k e h) = grown_itself log
-  step_appends log call answer after (sub_fresh sub h) = grown_further log (put log (Part sub)) after (grown_put log (Part sub)) (Desc sub.slot sub.left sub.right ∷ [], refl)
-  step_appends log call answer after (sub_known sub h) = grown_put log (Part sub)
-  step_appends log call answer after (claim_mine s l p h w) = (Claim s l p ∷ [], refl)
-  step_appends log call answer after (claim_taken s l p h w) = grown_itself log
-  step_appends log call answer after (claim_unknown s l p h) = grown_itself log
+  step_appends log call answer after step = subst (Grown log) (sym (step_is plan log call answer after step).1) (along_step Grown grown_itself grown_further grown_put plan log call)
 
   -- a claim stands beside the facts, and no other fact comes or goes
   pub claim_is_mark : (log : List Fact) (s l p : ℕ) (answer : Answer) (after : List Fact) → BankStep plan log (MakeClaim s l p) answer after → filter is_no_claim after ≡ filter is_no_claim log

@@ -1,9 +1,10 @@
 -- What holds of each bank between two steps. It is this project's own.
-use Rattle.std.specs.Prelude.{◌≡◌, ℕ, ◌+◌, ◌<◌, ◌≤◌, ◌^◌, List, length, Contains, Some, slice_get, take}
+use Rattle.std.specs.Prelude.{◌≡◌, ℕ, ◌+◌, ◌<◌, ◌≤◌, List, length, Contains, Some, slice_get, take}
 use Rattle.std.specs.List.{IsDistinct}
 use Rattle.ix_model.specs.declared.sub.Sub.{Sub}
 use Rattle.ix_model.specs.Expansion.Parts.{Parts}
 use Rattle.ix_model.specs.Expansion.SlotPlaces.{IsFirstSlot, IsLastSlot}
+use Rattle.ix_cluster.specs.declared.limits.TheConstants.{BANK_LIMIT, FACT_LIMIT}
 use Rattle.ix_cluster.specs.declared.fact.Fact.{Fact}
 use Rattle.ix_cluster.specs.declared.fact.Fact.TheVariants.{Called, Edge, Desc, Part, Claim}
 use Rattle.ix_cluster.specs.ClosedFacts.{IsInClosed}
@@ -41,10 +42,10 @@ pub record IsSoundBank (plan : Parts) (count m : ℕ) (bank : Bank) : Type 0 whe
   -- in its home the first rule is called at the start
   pub opened : home 0 0 count ≡ m → Contains bank.log (Called 0 0)
   -- no machine has memory for more facts, with the claims to come
-  pub bounded : length bank.log + unclaimed_in bank.log < 2 ^ 57
+  pub bounded : length bank.log + unclaimed_in bank.log < FACT_LIMIT
 
--- there are 1 to 64 banks, and each is sound
+-- there are banks, no more than the limit, and each is sound
 pub record AreSound (plan : Parts) (banks : List Bank) : Type 0 where
   pub some : 0 < length banks
-  pub few : length banks ≤ 64
+  pub few : length banks ≤ BANK_LIMIT
   pub each : (m : ℕ) (bank : Bank) → slice_get banks m ≡ Some bank → IsSoundBank plan (length banks) m bank

@@ -7,6 +7,7 @@ ghost use Rattle.ix_model.specs.Expansion.Numbered.{lines_at};
 ghost use Rattle.ix_model.specs.Expansion.Parts.{Parts};
 ghost use Rattle.ix_model.specs.Expansion.Slots.{sym_after};
 ghost use Rattle.ix_cluster.specs.declared.fact.Fact.TheVariants as fact;
+ghost use Rattle.ix_cluster.specs.declared.limits.TheConstants.{FACT_LIMIT};
 ghost use Rattle.ix_cluster.specs.BankSteps.{BankStep, AddEdge, AddEnd, Arrive, MakeClaim, Opens, Meets, Arrives, Belongs};
 ghost use Rattle.ix_cluster.specs.Facts.{same_fact, has, put};
 ghost use Rattle.ix_cluster.specs.Firsts.{firsts_of};
@@ -148,7 +149,7 @@ impl Bank {
     pub fn fact_count(&self) -> u64
         ensures count { result ≡ length self.now.log }
         // With the claims to come there are fewer facts than any machine has memory for.
-        ensures bounded { result + unclaimed_in self.now.log < 2 ^ 57 }
+        ensures bounded { result + unclaimed_in self.now.log < FACT_LIMIT }
         ensures once { IsDistinct same_fact self.now.log }
     {
         self.log.len()

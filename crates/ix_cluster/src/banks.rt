@@ -1,6 +1,7 @@
 //! Several banks, and what they have recorded together.
 ghost use Rattle.std.specs.Prelude.{◌≡◌, ◌<◌, ◌≤◌, ◌+◌, ◌++◌, length, slice_get, Some, IfOk, OnOk};
 ghost use Rattle.std.specs.List.{count_by, filter_map, fold};
+ghost use Rattle.ix_cluster.specs.declared.limits.TheConstants.{BANK_LIMIT};
 ghost use Rattle.ix_cluster.specs.Banks.{opening, opening_bank, facts_of, later_of, is_descriptor, recorded_sub};
 ghost use Rattle.ix_cluster.specs.Laws.{IsLaterOf};
 ghost use Rattle.ix_cluster.specs.Sound.{IsSoundBank, AreSound};
@@ -25,7 +26,7 @@ impl Banks {
     /// An error is want of memory.
     pub fn begin(alloc: Global, plan: &Plan, count: u32) -> Result<Banks, AllocError>
         requires some { 1 ≤ count }
-        requires few { count ≤ 64 }
+        requires few { count ≤ BANK_LIMIT }
         ensures opening { IfOk result (λ banks. banks.banks.items ≡ opening plan.now count) }
         ensures sound { IfOk result (λ banks. AreSound plan.now banks.banks.items) }
     {
@@ -38,7 +39,7 @@ impl Banks {
 
     /// How many banks there are.
     pub fn count(&self) -> u32
-        requires { length self.now.banks.items ≤ 64 }
+        requires { length self.now.banks.items ≤ BANK_LIMIT }
         ensures { result ≡ length self.now.banks.items }
     {
         self.banks.len() as u32
@@ -66,7 +67,7 @@ impl Banks {
 
     /// How many descriptors there are.
     pub fn descriptors(&self) -> u64
-        requires { length self.now.banks.items ≤ 64 }
+        requires { length self.now.banks.items ≤ BANK_LIMIT }
         ensures { result ≡ count_by is_descriptor (facts_of self.now.banks.items) }
     {
         let mut count = 0;
@@ -111,13 +112,10 @@ fn opening_bank(alloc: Global, plan: &Plan, count: u32, m: u32) -> Result<Bank, 
 fn later(pos: u32, facts: &[Fact]) -> u32
     ensures { result ≡ fold later_of pos facts.now }
 {
-    let mut furthest = pos;
-    for fact in facts {
-        if let Fact::Desc { pos, .. } = fact {
-            furthest = furthest.max(*pos);
-        }
-    }
-    furthest
+    facts.iter().fold(pos, |furthest, fact| match fact {
+        Fact::Desc { pos, .. } => furthest.max(*pos),
+        _ => furthest,
+    })
 }
 
 // How many of the facts are descriptors.
@@ -125,13 +123,10 @@ fn descriptor_count(facts: &[Fact]) -> u64
     ensures count { result ≡ count_by is_descriptor facts.now }
     ensures small { result ≤ length facts.now }
 {
-    let mut count = 0;
-    for fact in facts {
-        if let Fact::Desc { .. } = fact {
-            count += 1;
-        }
-    }
-    count
+    let descriptors = facts
+        .iter()
+        .filter(|fact| matches!(fact, Fact::Desc { .. }));
+    descriptors.count() as u64
 }
 
 // Adds the subtrees among the facts, in their order.

@@ -7,6 +7,7 @@ mod banks;
 mod cluster;
 mod fact;
 pub mod laws;
+mod limits;
 mod lists;
 mod log;
 
@@ -15,6 +16,7 @@ pub use bank::Bank;
 pub use banks::Banks;
 pub use cluster::{Edge, home};
 pub use fact::Fact;
+pub use limits::{BANK_LIMIT, FACT_LIMIT};
 
 #[cfg(test)]
 mod tests;

@@ -9,17 +9,16 @@ ghost use Rattle.ix_cluster.specs.LogPlaces.{is_no_claim, as_claim};
 ghost use Rattle.ix_cluster.specs.Room.{is_unclaimed, unclaimed_in};
 ghost use Rattle.ix_cluster.specs.declared.fact.Fact.{Fact};
 ghost use Rattle.ix_cluster.specs.declared.fact.Fact.TheVariants as fact;
+ghost use Rattle.ix_cluster.specs.declared.limits.TheConstants.{FACT_LIMIT};
 ghost use Rattle.ix_cluster.specs.declared.log.Place.TheVariants as at;
 ghost use Rattle.ix_cluster.specs.Steps.{claim_answer, after_claim};
 
 use crate::answers::Claimed;
 use crate::fact::Fact;
+use crate::limits::FACT_LIMIT;
 use indexmap::IndexSet;
 use std::alloc::{AllocError, Global};
 use std::marker::Model;
-
-// No machine has memory for so many facts.
-const MOST: u64 = 1 << 57;
 
 // So many facts have numbers. The set of facts holds fewer, so this refuses nothing that the set would take.
 const NUMBERS: u64 = 1 << 32;
@@ -113,7 +112,7 @@ impl Log {
 
     pub(crate) fn len(&self) -> u64
         ensures len { result ≡ length self.now.facts }
-        ensures small { result + unclaimed_in self.now.facts < 2 ^ 57 }
+        ensures small { result + unclaimed_in self.now.facts < FACT_LIMIT }
         ensures once { IsDistinct same_fact self.now.facts }
     {
         let _free = self.free;
@@ -152,10 +151,12 @@ impl Log {
         requires { more < 2 ^ 60 }
         ensures facts { self.new.facts ≡ self.old.facts }
         ensures room { OnOk result (more ≤ self.new.free) }
-        ensures small { OnOk result (length self.new.facts < 2 ^ 57) }
+        ensures small { OnOk result (length self.new.facts < FACT_LIMIT) }
     {
         let room = self.unclaimed + more;
-        if self.places.len() as u64 + room >= MOST || self.facts.len() as u64 + more > NUMBERS {
+        if self.places.len() as u64 + room >= FACT_LIMIT
+            || self.facts.len() as u64 + more > NUMBERS
+        {
             return Err(AllocError);
         }
         self.facts.reserve(more as usize)?;
@@ -173,7 +174,7 @@ impl Log {
         ensures added { result ≡ not (has self.old.facts fact) }
         ensures facts { self.new.facts ≡ put self.old.facts fact }
         ensures free { self.old.free ≤ self.new.free + 2 }
-        ensures bounded { length self.new.facts + unclaimed_in self.new.facts < 2 ^ 57 }
+        ensures bounded { length self.new.facts + unclaimed_in self.new.facts < FACT_LIMIT }
     {
         let added = put_in(&mut self.facts, &mut self.marks, &mut self.places, fact);
         self.free -= 2;
@@ -186,7 +187,7 @@ impl Log {
         ensures added { result ≡ not (has self.old.facts (fact.Desc slot left pos)) }
         ensures facts { self.new.facts ≡ put self.old.facts (fact.Desc slot left pos) }
         ensures free { self.old.free ≤ self.new.free + 2 }
-        ensures bounded { length self.new.facts + unclaimed_in self.new.facts < 2 ^ 57 }
+        ensures bounded { length self.new.facts + unclaimed_in self.new.facts < FACT_LIMIT }
     {
         let descriptor = Fact::Desc { slot, left, pos };
         let added = put_in(
@@ -204,7 +205,7 @@ impl Log {
     pub(crate) fn claim(&mut self, slot: u32, left: u32, pos: u32) -> Claimed
         ensures answer { result ≡ claim_answer self.old.facts slot left pos }
         ensures facts { self.new.facts ≡ after_claim self.old.facts slot left pos }
-        ensures bounded { length self.new.facts + unclaimed_in self.new.facts < 2 ^ 57 }
+        ensures bounded { length self.new.facts + unclaimed_in self.new.facts < FACT_LIMIT }
     {
         let Some(number) = self.facts.get_index_of(&Fact::Desc { slot, left, pos }) else {
             return Claimed::Unknown;

@@ -1,68 +1,7 @@
-ghost use Rattle.std.specs.Prelude.{◌≡◌, [], ◌∷◌, IfOk, codes};
-ghost use Rattle.ix_examples.specs.SmallPlans.{cycle};
-
 use crate::{Arrived, Bank, Banks, Claimed, Edge, Fact, home};
-use ix_model::{Flat, Kind, Line, Mark, Plan, Rules, SlotInfo, Sub, Sym, Terminal, Text};
-use sqlite_items::Items;
+use ix_examples::plans::{BY_FIRST, BY_SECOND, cycle};
 use std::alloc::{AllocError, Global};
 use std::test::Fail;
-
-// An alternative of one symbol.
-fn line_of(alloc: Global, sym: Sym) -> Result<Line, AllocError>
-    ensures { IfOk result (λ line. line ≡ record { syms = sym ∷ [] }) }
-{
-    Ok(Line {
-        syms: Items::from_slice(alloc, &[sym])?,
-    })
-}
-
-// The numbered rules of `S: S; "a".`
-fn cycle_rules(alloc: Global) -> Result<Rules, AllocError>
-    ensures { IfOk result (λ rules. rules ≡ (cycle (codes "a")).rules) }
-{
-    let mut names = Items::new(alloc);
-    names.push(Text::from_slice(alloc, &['S'])?)?;
-    let mut lines = Items::new(alloc);
-    lines.push(line_of(
-        alloc,
-        Sym::Rule {
-            rule: 0,
-            mark: None,
-        },
-    )?)?;
-    lines.push(line_of(
-        alloc,
-        Sym::Term {
-            terminal: 0,
-            shown: true,
-        },
-    )?)?;
-    let mut flats = Items::new(alloc);
-    flats.push(Flat {
-        kind: Kind::Named,
-        lines,
-    })?;
-    let mut terminals = Items::new(alloc);
-    terminals.push(Terminal::Lit(Text::from_slice(alloc, &['a'])?))?;
-    Ok(Rules {
-        names,
-        marks: Items::from_slice(alloc, &[Mark::Element])?,
-        flats,
-        terminals,
-        inserts: Items::new(alloc),
-    })
-}
-
-// Their plan for the text `a`. The slots of the first alternative are 0 and 1, those of the second 2 and 3.
-fn cycle_plan(alloc: Global) -> Result<Plan, AllocError>
-    ensures { IfOk result (λ plan. plan ≡ cycle (codes "a")) }
-{
-    let rules = cycle_rules(alloc)?;
-    let slot = |alt: u32, dot: u32| SlotInfo { head: 0, alt, dot };
-    let slots = Vec::from_slice(alloc, &[slot(0, 0), slot(0, 1), slot(1, 0), slot(1, 1)])?;
-    let text = Vec::from_slice(alloc, &['a'])?;
-    Ok(Plan::of(rules, slots, text))
-}
 
 // The facts of the bank, in the order of its log.
 fn facts_of(alloc: Global, bank: &Bank) -> Result<Vec<Fact>, AllocError> {
@@ -94,10 +33,11 @@ fn clusters_spread_over_banks(rt: HostRuntime) -> Result<(), Fail> {
     Ok(())
 }
 
+// The plan of these tests is `S: S; "a".` on `a`: slots 0 and 1 are of the first alternative, 2 and 3 of the second.
 #[test]
 fn steps_of_a_bank_answer_once(rt: HostRuntime) -> Result<(), Fail> {
     let alloc = rt.alloc();
-    let plan = cycle_plan(alloc)?;
+    let plan = cycle(alloc, &['a'])?;
     let mut banks = Banks::begin(alloc, &plan, 1)?;
     let Some(mut bank) = banks.banks.pop() else {
         panic!(rt; "there is one bank");
@@ -124,14 +64,8 @@ fn steps_of_a_bank_answer_once(rt: HostRuntime) -> Result<(), Fail> {
     assert_eq!(rt; bank.claim(2, 0, 0), Claimed::Taken);
     assert_eq!(rt; bank.claim(3, 0, 1), Claimed::Unknown);
     assert_eq!(rt; bank.is_claimed(2, 0, 0), true);
-    let character = Sub {
-        slot: 3,
-        left: 0,
-        pivot: 0,
-        right: 1,
-    };
-    assert_eq!(rt; bank.arrive(character)?, Arrived::Fresh);
-    assert_eq!(rt; bank.arrive(character)?, Arrived::Known);
+    assert_eq!(rt; bank.arrive(BY_SECOND)?, Arrived::Fresh);
+    assert_eq!(rt; bank.arrive(BY_SECOND)?, Arrived::Known);
     let opened = bank.add_edge(&plan, 0, 0, 0, 0)?;
     assert_eq!(rt; (opened.first, opened.ends.len()), (false, 0));
     let edges = bank.add_end(0, 0, 1)?;
@@ -140,14 +74,8 @@ fn steps_of_a_bank_answer_once(rt: HostRuntime) -> Result<(), Fail> {
     let opened = bank.add_edge(&plan, 0, 0, 0, 0)?;
     assert_eq!(rt; (opened.first, opened.ends.len()), (false, 0));
     assert_eq!(rt; bank.handed(), 1);
-    let again = Sub {
-        slot: 1,
-        left: 0,
-        pivot: 0,
-        right: 1,
-    };
-    assert_eq!(rt; bank.arrive(again)?, Arrived::Fresh);
-    assert_eq!(rt; bank.arrive(again)?, Arrived::Known);
+    assert_eq!(rt; bank.arrive(BY_FIRST)?, Arrived::Fresh);
+    assert_eq!(rt; bank.arrive(BY_FIRST)?, Arrived::Known);
     let opened = bank.add_edge(&plan, 0, 1, 0, 1)?;
     assert_eq!(rt; (opened.first, opened.ends.len()), (true, 0));
     assert_eq!(rt; (bank.edge_count(0, 0), bank.end_count(0, 0)), (1, 1));
@@ -171,7 +99,7 @@ fn steps_of_a_bank_answer_once(rt: HostRuntime) -> Result<(), Fail> {
                 left: 0,
                 pos: 0
             },
-            Fact::Part(character),
+            Fact::Part(BY_SECOND),
             Fact::Desc {
                 slot: 3,
                 left: 0,
@@ -188,7 +116,7 @@ fn steps_of_a_bank_answer_once(rt: HostRuntime) -> Result<(), Fail> {
                 at: 0,
                 end: 1
             },
-            Fact::Part(again),
+            Fact::Part(BY_FIRST),
             Fact::Desc {
                 slot: 1,
                 left: 0,
@@ -220,7 +148,7 @@ fn steps_of_a_bank_answer_once(rt: HostRuntime) -> Result<(), Fail> {
 #[test]
 fn an_edge_meets_the_end_that_is_there(rt: HostRuntime) -> Result<(), Fail> {
     let alloc = rt.alloc();
-    let plan = cycle_plan(alloc)?;
+    let plan = cycle(alloc, &['a'])?;
     let mut banks = Banks::begin(alloc, &plan, 1)?;
     let Some(mut bank) = banks.banks.pop() else {
         panic!(rt; "there is one bank");
@@ -236,7 +164,7 @@ fn an_edge_meets_the_end_that_is_there(rt: HostRuntime) -> Result<(), Fail> {
 #[test]
 fn banks_tell_what_they_have_together(rt: HostRuntime) -> Result<(), Fail> {
     let alloc = rt.alloc();
-    let plan = cycle_plan(alloc)?;
+    let plan = cycle(alloc, &['a'])?;
     let mut banks = Banks::begin(alloc, &plan, 3)?;
     assert_eq!(rt;
         (banks.count(), banks.furthest(), banks.descriptors()),
@@ -246,14 +174,8 @@ fn banks_tell_what_they_have_together(rt: HostRuntime) -> Result<(), Fail> {
         (banks.bank(0).fact_count(), banks.bank(1).fact_count()),
         (3, 0)
     );
-    let character = Sub {
-        slot: 3,
-        left: 0,
-        pivot: 0,
-        right: 1,
-    };
-    banks.banks[0].arrive(character)?;
+    banks.banks[0].arrive(BY_SECOND)?;
     assert_eq!(rt; (banks.furthest(), banks.descriptors()), (1, 3));
-    assert_eq!(rt; banks.all_subs(alloc)?.as_slice(), [character].as_slice());
+    assert_eq!(rt; banks.all_subs(alloc)?.as_slice(), [BY_SECOND].as_slice());
     Ok(())
 }

@@ -1,8 +1,9 @@
 -- A step keeps its bank sound.
-use Rattle.std.proofs.Common.{◌≡◌, ℕ, ◌+◌, ◌^◌, ◌<◌, length, refl, arith}
+use Rattle.std.proofs.Common.{◌≡◌, ℕ, ◌+◌, ◌<◌, length, refl, arith}
 use Rattle.ix_model.specs.Expansion.Parts.{Parts}
 use Rattle.ix_model.specs.Expansion.Planned.{IsPlanned}
 use Rattle.ix_closure_laws.proofs.ClosedWithin.{edge_within}
+use Rattle.ix_cluster.specs.declared.limits.TheConstants.{FACT_LIMIT}
 use Rattle.ix_cluster.specs.ClosedFacts.{IsInClosed}
 use Rattle.ix_cluster.specs.Room.{unclaimed_in}
 use Rattle.ix_cluster.specs.Seen.{Bank}
@@ -15,7 +16,7 @@ use Rattle.ix_closure.specs.Events.{log_after, bank_after, home_for}
 use Rattle.ix_closure.specs.Follows.{fact_of}
 
 module _ (plan : Parts) (planned : IsPlanned plan) (count m : ℕ) (bank : Bank) where
-  pub bank_sound : (o : Owed) → IsInClosed plan (fact_of o) → home_for plan count o ≡ m → length (log_after plan bank.log o) + unclaimed_in (log_after plan bank.log o) < 2 ^ 57 → IsSoundBank plan count m bank → IsSoundBank plan count m (bank_after plan bank o)
+  pub bank_sound : (o : Owed) → IsInClosed plan (fact_of o) → home_for plan count o ≡ m → length (log_after plan bank.log o) + unclaimed_in (log_after plan bank.log o) < FACT_LIMIT → IsSoundBank plan count m bank → IsSoundBank plan count m (bank_after plan bank o)
   bank_sound (Claim s l p) closed home bounded sound = sound-claim plan count m bank (bank_after plan bank (Claim s l p)) s l p refl (omega arith) bounded sound
   bank_sound (Edge r k s l) closed home bounded sound =
       sound-edge plan count m planned bank (bank_after plan bank (Edge r k s l)) r k s l (edge_answer bank.log r k s l) (edge_within plan planned r k s l closed).0 refl refl refl bounded home closed sound

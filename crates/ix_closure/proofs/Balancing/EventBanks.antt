@@ -6,6 +6,7 @@ use Rattle.ix_cluster.specs.declared.fact.Fact.{Fact}
 use Rattle.ix_cluster.specs.ClosedFacts.{IsInClosed}
 use Rattle.ix_cluster.specs.Homes.{home_of}
 use Rattle.ix_cluster.specs.Sound.{IsSoundBank, AreSound}
+use Rattle.ix_cluster.proofs.Members.{nth_has}
 use Rattle.ix_closure.specs.declared.owed.Owed.{Owed}
 use Rattle.ix_closure.specs.Balance.{IsBalanced}
 use Rattle.ix_closure.specs.Due.{IsRecorded, FollowsIn}
@@ -14,7 +15,6 @@ use Rattle.ix_closure.specs.Follows.{fact_of}
 use Rattle.ix_closure.specs.Seen.{State}
 use Rattle.ix_closure.proofs.Balancing.BankSound.{bank_sound}
 use Rattle.ix_closure.proofs.Due.DueClosed.{owed_closed}
-use Rattle.ix_closure.proofs.Lists.ListMembers.{nth_has}
 use Rattle.ix_closure.proofs.Balancing.RecordedFacts.{Moves, set_sound, set_moves}
 use Rattle.ix_closure.proofs.Due.StepLogs.{log_keeps}
 

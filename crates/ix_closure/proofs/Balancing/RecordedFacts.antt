@@ -3,13 +3,15 @@ use Rattle.std.proofs.Common.{◌≡◌, ℕ, ◌<◌, ◌≤◌, List, length, 
 use Rattle.std.proofs.lemmas.Bool.{cases_eq}
 use Rattle.std.proofs.lemmas.List.{length-set}
 use Rattle.ix_model.specs.Expansion.Parts.{Parts}
+use Rattle.ix_cluster.specs.declared.limits.TheConstants.{BANK_LIMIT}
 use Rattle.ix_cluster.specs.declared.fact.Fact.{Fact}
 use Rattle.ix_cluster.specs.ClosedFacts.{IsInClosed}
 use Rattle.ix_cluster.specs.Homes.{home_of}
 use Rattle.ix_cluster.specs.Seen.{Bank}
 use Rattle.ix_cluster.specs.Sound.{IsSoundBank, AreSound}
+use Rattle.ix_cluster.proofs.Members.{nth_has}
 use Rattle.ix_closure.specs.Due.{IsRecorded}
-use Rattle.ix_closure.proofs.Lists.ListMembers.{nth_has, place_in, flat_has, flat_from}
+use Rattle.ix_closure.proofs.Lists.ListMembers.{place_in, flat_has, flat_from}
 use Rattle.ix_closure.proofs.Lists.ListUpdates.{set_other, set_from}
 use Rattle.ix_cluster.proofs.Elements.{get-set_same}
 
@@ -55,7 +57,7 @@ module _ (plan : Parts) (banks : List Bank) (sound : AreSound plan banks) where
     pub set_sound : AreSound plan (slice_set banks m new)
     set_sound = record {
       some = subst (λ n. 0 < n) (sym (length-set banks m new)) sound.some;
-      few = subst (λ n. n ≤ 64) (sym (length-set banks m new)) sound.few;
+      few = subst (λ n. n ≤ BANK_LIMIT) (sym (length-set banks m new)) sound.few;
       each = λ n b e. subst (λ count. IsSoundBank plan count n b) (sym (length-set banks m new)) (elim (set_from banks m n new b e) [
         | inl h ↦ subst (λ i. IsSoundBank plan (length banks) i b) (sym h.0) (subst (IsSoundBank plan (length banks) m) h.1 sound_new)
         | inr h ↦ sound.each n b h.1

@@ -3,6 +3,7 @@ use Rattle.std.proofs.Common.{◌≡◌, ℕ, ◌+◌, ◌-◌, ◌*◌, ◌^◌
 use Rattle.std.proofs.Math.Nat.{mul-le-mul_right}
 use Rattle.ix_model.specs.Expansion.Parts.{Parts}
 use Rattle.ix_model.specs.Expansion.Planned.{IsPlanned}
+use Rattle.ix_cluster.specs.declared.limits.TheConstants.{BANK_LIMIT, FACT_LIMIT}
 use Rattle.ix_cluster.specs.Banks.{facts_of}
 use Rattle.ix_cluster.specs.Seen.{Bank}
 use Rattle.ix_cluster.specs.Sound.{AreSound}
@@ -19,10 +20,10 @@ from_on_ok (Ok x) e p = p
 from_on_ok (Err y) e p = absurd (cc)
 
 -- sound banks have fewer facts than any machine has memory for
-few_facts : (plan : Parts) (banks : List Bank) → AreSound plan banks → length (facts_of banks) ≤ 2 ^ 63
-few_facts plan banks sound = omega (arith, length_flat (λ (bank : Bank). bank.log) (2 ^ 57) banks few, sound.few)
+few_facts : (plan : Parts) (banks : List Bank) → AreSound plan banks → length (facts_of banks) ≤ BANK_LIMIT * FACT_LIMIT
+few_facts plan banks sound = omega (arith, length_flat (λ (bank : Bank). bank.log) FACT_LIMIT banks few, sound.few)
   where
-    few : (bank : Bank) → Contains banks bank → length bank.log ≤ 2 ^ 57
+    few : (bank : Bank) → Contains banks bank → length bank.log ≤ FACT_LIMIT
     few bank there = let p = place_in banks bank there in omega (arith, (sound.each p.0 bank p.1).bounded)
 
 -- the room that is left for facts counts most, and then the number of owed steps
@@ -38,7 +39,7 @@ room_falls top w l l' q q' h small (inr fewer) =
 
 -- so what is left to do gets less
 pub event_falls : (plan : Parts) → IsPlanned plan → (old new : State) (n : ℕ) → IsBalanced plan old → Event plan old n new → length new.owed < 2 ^ 63
-    → (2 ^ 63 - length (facts_of new.banks)) * 2 ^ 64 + length new.owed < (2 ^ 63 - length (facts_of old.banks)) * 2 ^ 64 + length old.owed
+    → (BANK_LIMIT * FACT_LIMIT - length (facts_of new.banks)) * 2 ^ 64 + length new.owed < (BANK_LIMIT * FACT_LIMIT - length (facts_of old.banks)) * 2 ^ 64 + length old.owed
 event_falls plan planned old new n balanced event small =
-    room_falls (2 ^ 63) (2 ^ 64) (length (facts_of old.banks)) (length (facts_of new.banks)) (length old.owed) (length new.owed)
+    room_falls (BANK_LIMIT * FACT_LIMIT) (2 ^ 64) (length (facts_of old.banks)) (length (facts_of new.banks)) (length old.owed) (length new.owed)
     (few_facts plan new.banks (event_sound plan planned old new n balanced event)) (omega (arith, small)) (event_shrinks plan old new n event)

@@ -1,5 +1,6 @@
 -- A balanced state in which nothing is owed has recorded exactly the closure.
 use Rattle.std.proofs.Common.{◌≡◌, ℕ, ◌<◌, List, [], length, get_or, Contains, refl, subst, ◌⊎◌, inl, inr, arith}
+use Rattle.std.proofs.lemmas.Bool.{cases_Bool}
 use Rattle.std.proofs.lemmas.List.{nil_from_length}
 use Rattle.std.proofs.lemmas.Option.{slice_get-get_or}
 use Rattle.ix_model.specs.Closure.Useful.{sub_at}
@@ -13,7 +14,6 @@ use Rattle.ix_cluster.specs.Facts.{has}
 use Rattle.ix_cluster.specs.Homes.{home}
 use Rattle.ix_cluster.specs.Seen.{Bank}
 use Rattle.ix_cluster.specs.Sound.{AreSound, HasCompanions}
-use Rattle.ix_cluster.proofs.Counts.{either}
 use Rattle.ix_cluster.proofs.Members.{none_has, has-Contains, Contains-has}
 use Rattle.ix_closure.specs.declared.owed.Owed.{Owed}
 use Rattle.ix_closure.specs.declared.owed.Owed.TheVariants as step
@@ -27,7 +27,7 @@ use Rattle.ix_closure.proofs.Balancing.RecordedFacts.{recorded_in, recorded_by, 
 
 -- a fact is recorded or not
 recorded_or_not : (banks : List Bank) (f : Fact) → IsRecorded banks f ⊎ (IsRecorded banks f → ⊥)
-recorded_or_not banks f = elim (either (has (facts_of banks) f)) [
+recorded_or_not banks f = elim (cases_Bool (has (facts_of banks) f)) [
   | inl h ↦ inl (Contains-has (facts_of banks) f h)
   | inr n ↦ inr (λ h. absurd (cc (has-Contains (facts_of banks) f h, n)))
 ]

@@ -1,13 +1,15 @@
 -- A step of a core is an event.
-use Rattle.std.proofs.Common.{◌≡◌, ℕ, ◌+◌, ◌^◌, ◌<◌, List, length, get_or, Some, slice_get, slice_set, Result, Ok, Err, OnOk, OnErr, refl, sym, ap, ◌∙◌, subst, arith}
+use Rattle.std.proofs.Common.{◌≡◌, ℕ, ◌+◌, ◌<◌, List, length, get_or, Some, slice_get, slice_set, Result, Ok, Err, OnOk, OnErr, refl, sym, ap, ◌∙◌, subst, arith}
 use Rattle.std.proofs.lemmas.Option.{slice_get_read}
 use Rattle.ix_model.specs.Expansion.Parts.{Parts}
 use Rattle.ix_model.specs.Expansion.Planned.{IsPlanned}
+use Rattle.ix_cluster.specs.declared.limits.TheConstants.{FACT_LIMIT}
 use Rattle.ix_cluster.specs.declared.fact.Fact.{Fact}
 use Rattle.ix_cluster.specs.ClosedFacts.{IsInClosed}
 use Rattle.ix_cluster.specs.Homes.{home_of}
 use Rattle.ix_cluster.specs.Room.{unclaimed_in}
 use Rattle.ix_cluster.specs.Seen.{Bank}
+use Rattle.ix_cluster.proofs.Members.{nth_has}
 use Rattle.ix_closure.specs.declared.owed.Owed.{Owed}
 use Rattle.ix_closure.specs.Balance.{IsBalanced}
 use Rattle.ix_closure.specs.Events.{Event, bank_after, home_for}
@@ -16,7 +18,6 @@ use Rattle.ix_closure.specs.Ready.{HasSlot, IsReady, IsReplaced}
 use Rattle.ix_closure.specs.Seen.{State}
 use Rattle.ix_closure.proofs.Due.DueClosed.{owed_closed}
 use Rattle.ix_closure.proofs.Balancing.EventBalance.{event_balanced}
-use Rattle.ix_closure.proofs.Lists.ListMembers.{nth_has}
 use Rattle.ix_closure.proofs.Lists.ListUpdates.{set_same}
 use Rattle.ix_closure.proofs.Due.Readiness.{step_slot, step_ready}
 use Rattle.ix_closure.proofs.Balancing.RecordedFacts.{recorded_closed, recorded_by}
@@ -48,7 +49,7 @@ module _ (plan : Parts) (planned : IsPlanned plan) (old : State) (balanced : IsB
       after : State
       after = record { banks = slice_set old.banks m new; owed = owed }
 
-      is_event : new ≡ bank_after plan bank step → IsReplaced plan bank.log step old.owed n owed → length new.log + unclaimed_in new.log < 2 ^ 57 → Event plan old n after
+      is_event : new ≡ bank_after plan bank step → IsReplaced plan bank.log step old.owed n owed → length new.log + unclaimed_in new.log < FACT_LIMIT → Event plan old n after
       unfolding after
       is_event e r bounded = record {
         step = step;
@@ -59,11 +60,11 @@ module _ (plan : Parts) (planned : IsPlanned plan) (old : State) (balanced : IsB
         more = r.0;
         follows = r.1;
         owed = r.2;
-        bounded = subst (λ (b : Bank). length b.log + unclaimed_in b.log < 2 ^ 57) e bounded;
+        bounded = subst (λ (b : Bank). length b.log + unclaimed_in b.log < FACT_LIMIT) e bounded;
       }
 
       -- where there was memory, an event has happened
-      pub ok_event : {T E : Type 0} (r : Result T E) → OnOk r (new ≡ bank_after plan bank step) → OnOk r (IsReplaced plan bank.log step old.owed n owed) → length new.log + unclaimed_in new.log < 2 ^ 57 → OnOk r (Event plan old n (record { banks = slice_set old.banks m new; owed = owed }))
+      pub ok_event : {T E : Type 0} (r : Result T E) → OnOk r (new ≡ bank_after plan bank step) → OnOk r (IsReplaced plan bank.log step old.owed n owed) → length new.log + unclaimed_in new.log < FACT_LIMIT → OnOk r (Event plan old n (record { banks = slice_set old.banks m new; owed = owed }))
       unfolding after
       ok_event (Ok x) e r bounded = is_event e r bounded
       ok_event (Err x) e r bounded = e
@@ -73,7 +74,7 @@ module _ (plan : Parts) (planned : IsPlanned plan) (old : State) (balanced : IsB
       err_stays (Ok x) e w = e
       err_stays (Err x) e w = λ i. record { banks = (ap (slice_set old.banks m) e ∙ set_same old.banks m bank there) i; owed = w i }
 
-      pub stays_balanced : {T E : Type 0} (r : Result T E) → OnOk r (new ≡ bank_after plan bank step) → OnOk r (IsReplaced plan bank.log step old.owed n owed) → OnErr r (new ≡ bank) → OnErr r (owed ≡ old.owed) → length new.log + unclaimed_in new.log < 2 ^ 57 → IsBalanced plan (record { banks = slice_set old.banks m new; owed = owed })
+      pub stays_balanced : {T E : Type 0} (r : Result T E) → OnOk r (new ≡ bank_after plan bank step) → OnOk r (IsReplaced plan bank.log step old.owed n owed) → OnErr r (new ≡ bank) → OnErr r (owed ≡ old.owed) → length new.log + unclaimed_in new.log < FACT_LIMIT → IsBalanced plan (record { banks = slice_set old.banks m new; owed = owed })
       unfolding after
       stays_balanced (Ok x) e r a b bounded = event_balanced plan planned old after n balanced (is_event e r bounded)
       stays_balanced {T = T} (Err x) e r a b bounded = subst (IsBalanced plan) (sym (err_stays {T = T} (Err x) a b)) balanced

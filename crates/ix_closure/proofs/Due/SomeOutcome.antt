@@ -22,6 +22,7 @@ use Rattle.ix_cluster.specs.declared.fact.Fact.{Fact}
 use Rattle.ix_cluster.specs.Homes.{home_of}
 use Rattle.ix_cluster.specs.Seen.{Bank}
 use Rattle.ix_cluster.specs.Steps.{claim_answer, arrival_answer}
+use Rattle.ix_cluster.proofs.Members.{nth_has}
 use Rattle.ix_closure.specs.declared.owed.Owed.{Owed}
 use Rattle.ix_closure.specs.declared.owed.Owed.TheVariants.{Claim, Edge, End, Arrive}
 use Rattle.ix_closure.specs.Balance.{IsBalanced}
@@ -33,7 +34,6 @@ use Rattle.ix_closure.specs.Ready.{HasSlot}
 use Rattle.ix_closure.specs.Seen.{State}
 use Rattle.ix_closure.proofs.Due.DueClosed.{due_closed}
 use Rattle.ix_closure.proofs.Due.DescriptorSteps.{reads_follows, passes_term, stops_term}
-use Rattle.ix_closure.proofs.Lists.ListMembers.{nth_has}
 use Rattle.ix_closure.proofs.Due.Readiness.{step_slot}
 use Rattle.ix_closure.proofs.Balancing.RecordedFacts.{recorded_closed}
 

@@ -1,18 +1,18 @@
 -- What a log has after a step, and what is recorded then.
 use Rattle.std.proofs.Common.{◌≡◌, Bool, true, false, cond, List, Contains, sym, ◌∙◌, subst, ◌⊎◌, inl, inr, true≢false}
-use Rattle.std.proofs.lemmas.Bool.{false_from_ne_true}
+use Rattle.std.proofs.lemmas.Bool.{cases_Bool, false_from_ne_true}
 use Rattle.ix_model.specs.Expansion.Parts.{Parts}
 use Rattle.ix_cluster.specs.declared.fact.Fact.{Fact}
 use Rattle.ix_cluster.specs.declared.fact.Fact.TheVariants as fact
 use Rattle.ix_cluster.specs.Facts.{has, put}
 use Rattle.ix_cluster.specs.Firsts.{firsts_of}
 use Rattle.ix_cluster.specs.Steps.{after_call}
-use Rattle.ix_cluster.proofs.Calls.{IsBegun, call-from, call-keeps}
-use Rattle.ix_cluster.proofs.Counts.{either}
+use Rattle.ix_cluster.proofs.Calls.{IsBegun, call-from}
 use Rattle.ix_cluster.proofs.Members.{put-keeps, put-from, has-Contains, Contains-has}
+use Rattle.ix_cluster.proofs.Recording.{along_step}
 use Rattle.ix_closure.specs.declared.owed.Owed.{Owed}
 use Rattle.ix_closure.specs.declared.owed.Owed.TheVariants.{Claim, Edge, End, Arrive}
-use Rattle.ix_closure.specs.Events.{log_after}
+use Rattle.ix_closure.specs.Events.{call_of, log_after}
 use Rattle.ix_closure.specs.Follows.{fact_of}
 use Rattle.ix_closure.proofs.Balancing.RecordedFacts.{Moves}
 
@@ -25,18 +25,7 @@ has_not log f none = false_from_ne_true (has log f) (λ t. none (Contains-has lo
 
 -- a step forgets no fact
 pub log_keeps : (plan : Parts) (log : List Fact) (o : Owed) (f : Fact) → Contains log f → Contains (log_after plan log o) f
-log_keeps plan log (Claim s l p) f h = by (has log (fact.Desc s l p))
-  where
-    by : (b : Bool) → Contains (cond b (put log (fact.Claim s l p)) log) f
-    by true = put-keeps log (fact.Claim s l p) f h
-    by false = h
-log_keeps plan log (Edge r k s l) f h = by (has log (fact.Edge r k s l))
-  where
-    by : (b : Bool) → Contains (cond b log (put (after_call plan log r k) (fact.Edge r k s l))) f
-    by true = h
-    by false = put-keeps (after_call plan log r k) (fact.Edge r k s l) f (call-keeps plan log r k f h)
-log_keeps plan log (End r k e) f h = put-keeps log (fact.End r k e) f h
-log_keeps plan log (Arrive sub) f h = put-keeps (put log (fact.Part sub)) (fact.Desc sub.slot sub.left sub.right) f (put-keeps log (fact.Part sub) f h)
+log_keeps plan log o f = along_step (λ before after. Contains before f → Contains after f) (λ _ h. h) (λ _ _ _ e w h. w (e h)) (λ l g. put-keeps l g f) plan log (call_of o)
 
 -- the fact is one that the step records beside its own: what a new call records, or the new descriptor of a subtree
 unfoldable pub IsBeside : Parts → List Fact → Owed → Fact → Type 0
@@ -83,7 +72,7 @@ log_from plan log (Edge r k s l) f h = by (has log (fact.Edge r k s l)) h
 log_from plan log (End r k e) f h = elim (put-from log (fact.End r k e) f h) [ inl o ↦ inl o | inr w ↦ inr (inl w) ]
 log_from plan log (Arrive sub) f h = elim (put-from (put log (fact.Part sub)) (fact.Desc sub.slot sub.left sub.right) f h) [
   | inl o ↦ elim (put-from log (fact.Part sub) f o) [ inl w ↦ inl w | inr e ↦ inr (inl e) ]
-  | inr e ↦ elim (either (has log (fact.Desc sub.slot sub.left sub.right))) [
+  | inr e ↦ elim (cases_Bool (has log (fact.Desc sub.slot sub.left sub.right))) [
     | inl old ↦ inl (subst (Contains log) e (Contains-has log (fact.Desc sub.slot sub.left sub.right) old))
     | inr fresh ↦ inr (inr (fresh, e))
   ]

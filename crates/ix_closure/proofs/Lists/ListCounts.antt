@@ -1,20 +1,13 @@
 -- How many elements a list has, and how many of them pass a test.
-use Rattle.std.proofs.Common.{◌≡◌, ℕ, ◌+◌, ◌*◌, ◌≤◌, Bool, true, false, cond, List, [], ◌∷◌, ◌++◌, length, remove, count_by, Contains, Option, Some, None, slice_get, slice_set, refl, sym, ap, subst, inl, inr, arith}
+use Rattle.std.proofs.Common.{◌≡◌, ℕ, ◌+◌, ◌*◌, ◌≤◌, Bool, true, cond, List, [], ◌∷◌, length, remove, count_by, Contains, Option, Some, None, slice_get, slice_set, refl, sym, ap, subst, arith}
 use Rattle.std.specs.List.{sum_by, filter_map, cons_option, flat_map}
 use Rattle.std.proofs.lemmas.List.Concat.{length-flat_map}
 use Rattle.std.proofs.lemmas.List.Recursion.{is_count_by}
-use Rattle.std.proofs.lemmas.List.Sums.{sum_by-cons, sum_by-append, sum_by-remove, sum_by-set, sum_by-le}
+use Rattle.std.proofs.lemmas.List.Sums.{sum_by-remove, sum_by-set, sum_by-le, get_or-le-sum_by}
 use Rattle.std.proofs.lemmas.Option.{slice_get_within, get_or_from_slice_get}
-use Rattle.ix_cluster.proofs.Members.{either_has, none_has, rest_has, first_has}
 use Rattle.ix_closure.proofs.Lists.ListMembers.{all_have}
 
 module _ {X : Type 0} (p : X → Bool) where
-  pub count_cons : (x : X) (xs : List X) → count_by p (x ∷ xs) ≡ cond (p x) 1 0 + count_by p xs
-  count_cons x xs = sum_by-cons (λ y. cond (p y) 1 0) x xs
-
-  pub count_append : (xs ys : List X) → count_by p (xs ++ ys) ≡ count_by p xs + count_by p ys
-  count_append xs ys = sum_by-append (λ y. cond (p y) 1 0) xs ys
-
   -- an element that is taken out is counted no more
   pub count_remove : (xs : List X) (n : ℕ) (x : X) → slice_get xs n ≡ Some x → count_by p (remove xs n) + cond (p x) 1 0 ≡ count_by p xs
   count_remove xs n x e =
@@ -22,17 +15,7 @@ module _ {X : Type 0} (p : X → Bool) where
 
   -- what passes is counted
   pub count_some : (xs : List X) (x : X) → p x ≡ true → Contains xs x → 1 ≤ count_by p xs
-  count_some [] x e c = absurd (none_has x c)
-  count_some (y ∷ ys) x e c = elim (either_has y ys x c) [
-    | inl w ↦ omega (arith, count_cons y ys, ap {B = ℕ} (λ z. cond (p z) 1 0) w, ap {B = ℕ} (λ b. cond b 1 0) e)
-    | inr r ↦ omega (arith, count_cons y ys, count_some ys x e r)
-  ]
-
-  -- where none passes none is counted
-  pub count_none : (xs : List X) → ((x : X) → Contains xs x → p x ≡ false) → count_by p xs ≡ 0
-  count_none [] h = refl
-  count_none (y ∷ ys) h =
-      omega (arith, count_cons y ys, ap {B = ℕ} (λ b. cond b 1 0) (h y (first_has y ys)), count_none ys (λ x c. h x (rest_has y ys x c)))
+  count_some xs x e h = omega (arith, get_or-le-sum_by (λ y. cond (p y) 1 0) xs h.0 x h.1, ap {B = ℕ} (λ y. cond (p y) 1 0) h.2, ap {B = ℕ} (λ b. cond b 1 0) e)
 
 module _ {X : Type 0} where
   -- a list is as long as the count of all its elements

@@ -1,22 +1,15 @@
 -- What lists have that are made of other lists.
-use Rattle.std.proofs.Common.{◌≡◌, ℕ, zero, suc, List, [], ◌∷◌, map, remove, Contains, Option, Some, None, slice_get, refl, sym, ap, ◌∙◌, subst, ◌⊎◌, inl, inr}
+use Rattle.std.proofs.Common.{◌≡◌, ℕ, zero, suc, List, [], ◌∷◌, map, remove, Contains, Option, Some, None, slice_get, refl, sym, ap, ◌∙◌, subst, ◌⊎◌, inl, inr, arith}
 use Rattle.std.specs.List.{All, filter_map, flat_map, cons_option}
+use Rattle.std.proofs.lemmas.List.{get_or-map, length-map}
 use Rattle.std.proofs.lemmas.List.Concat.{flat_map-cons}
 use Rattle.std.proofs.lemmas.List.Elements.{All-contains_itself, All-weaker, Contains-append_left, Contains-append_right, Contains-append_cases}
+use Rattle.std.proofs.lemmas.Option.{slice_get-get_or}
 use Rattle.ix_cluster.proofs.Members.{first_has, rest_has, either_has, none_has}
 
 module _ {X : Type 0} where
-  pub nth_has : (xs : List X) (n : ℕ) (x : X) → slice_get xs n ≡ Some x → Contains xs x
-  nth_has [] n x e = absurd (cc)
-  nth_has (y ∷ ys) zero x e = subst (Contains (y ∷ ys)) (cc) (first_has y ys)
-  nth_has (y ∷ ys) (suc n) x e = rest_has y ys x (nth_has ys n x e)
-
   pub place_in : (xs : List X) (x : X) → Contains xs x → (n : ℕ) × (slice_get xs n ≡ Some x)
-  place_in [] x h = absurd (none_has x h)
-  place_in (y ∷ ys) x h = elim (either_has y ys x h) [
-    | inl e ↦ (0, ap Some e)
-    | inr r ↦ let p = place_in ys x r in (suc p.0, p.1)
-  ]
+  place_in xs x h = (h.0, slice_get-get_or xs h.0 x h.1 ∙ ap Some h.2)
 
   pub all_have : (P : X → Type 0) (xs : List X) → ((x : X) → Contains xs x → P x) → All P xs
   all_have P xs h = All-weaker (Contains xs) P h xs (All-contains_itself xs)
@@ -39,11 +32,7 @@ module _ {X : Type 0} where
 
 module _ {X Y : Type 0} where
   pub map_has : (f : X → Y) (xs : List X) (x : X) → Contains xs x → Contains (map f xs) (f x)
-  map_has f [] x h = absurd (none_has x h)
-  map_has f (y ∷ ys) x h = elim (either_has y ys x h) [
-    | inl e ↦ subst (λ z. Contains (map f (y ∷ ys)) (f z)) e (first_has (f y) (map f ys))
-    | inr r ↦ rest_has (f y) (map f ys) (f x) (map_has f ys x r)
-  ]
+  map_has f xs x h = (h.0, omega (arith, h.1, length-map xs f), get_or-map f xs h.0 x (f x) h.1 ∙ ap f h.2)
 
   pub map_from : (f : X → Y) (xs : List X) (y : Y) → Contains (map f xs) y → (x : X) × Contains xs x × (f x ≡ y)
   map_from f [] y h = absurd (none_has y h)

@@ -1,7 +1,8 @@
 -- Events of the small states of the worked examples.
-use Rattle.std.proofs.Common.{◌≡◌, ℕ, ◌+◌, ◌<◌, ◌^◌, List, [], ◌∷◌, ◌++◌, length, slice_get, slice_set, refl, sym, ap, arith}
+use Rattle.std.proofs.Common.{◌≡◌, ℕ, ◌+◌, ◌<◌, List, [], ◌∷◌, ◌++◌, length, slice_get, slice_set, refl, sym, ap, arith}
 use Rattle.ix_examples.specs.SmallPlans.{cycle, nothing}
 use Rattle.ix_model.specs.Expansion.Parts.{Parts}
+use Rattle.ix_cluster.specs.declared.limits.TheConstants.{FACT_LIMIT}
 use Rattle.ix_cluster.specs.declared.fact.Fact.{Fact}
 use Rattle.ix_cluster.specs.declared.fact.Fact.TheVariants as fact
 use Rattle.ix_cluster.specs.Room.{unclaimed_in}
@@ -16,7 +17,7 @@ use Rattle.ix_closure.specs.Seen.{State}
 use Rattle.ix_closure.proofs.Small.SmallSteps.{cycle_calls, cycle_stops, nothing_ends}
 
 -- the first owed step of one bank is done
-pub first_event : (plan : Parts) (log : List Fact) (handed : ℕ) (step : Owed) (rest more : List Owed) → home_for plan 1 step ≡ 0 → Follows plan log step more → length (log_after plan log step) + unclaimed_in (log_after plan log step) < 2 ^ 57
+pub first_event : (plan : Parts) (log : List Fact) (handed : ℕ) (step : Owed) (rest more : List Owed) → home_for plan 1 step ≡ 0 → Follows plan log step more → length (log_after plan log step) + unclaimed_in (log_after plan log step) < FACT_LIMIT
     → Event plan (alone log handed (step ∷ rest)) 0 (alone (log_after plan log step) (handed + handed_by log step) (rest ++ more))
 first_event plan log handed step rest more here follows bounded = record {
   step = step;
@@ -35,7 +36,7 @@ first_event plan log handed step rest more here follows bounded = record {
 
 -- and a run goes on with it
 pub first_goes_on : (plan : Parts) (first : State) (choices : List ℕ) (log : List Fact) (handed : ℕ) (step : Owed) (rest more : List Owed) → Run plan first choices (alone log handed (step ∷ rest)) → home_for plan 1 step ≡ 0 → Follows plan log step more
-    → length (log_after plan log step) + unclaimed_in (log_after plan log step) < 2 ^ 57 → Run plan first (choices ++ 0 ∷ []) (alone (log_after plan log step) (handed + handed_by log step) (rest ++ more))
+    → length (log_after plan log step) + unclaimed_in (log_after plan log step) < FACT_LIMIT → Run plan first (choices ++ 0 ∷ []) (alone (log_after plan log step) (handed + handed_by log step) (rest ++ more))
 first_goes_on plan first choices log handed step rest more run here follows bounded =
     goes_on choices 0 (alone log handed (step ∷ rest)) (alone (log_after plan log step) (handed + handed_by log step) (rest ++ more)) run (first_event plan log handed step rest more here follows bounded)
 

@@ -1,11 +1,12 @@
 -- The small states of the worked examples: they are balanced and tidy, and end in the closure.
-use Rattle.std.proofs.Common.{◌≡◌, ℕ, ◌+◌, ◌<◌, ◌^◌, zero, suc, [], ◌∷◌, ◌++◌, Some, codes, length, slice_get, subst, refl, inl, inr, arith}
+use Rattle.std.proofs.Common.{◌≡◌, ℕ, ◌+◌, ◌<◌, zero, suc, [], ◌∷◌, ◌++◌, Some, codes, length, slice_get, subst, refl, inl, inr, arith}
 use Rattle.std.proofs.lemmas.List.Elements.{Contains-append_left, Contains-push_cases}
 use Rattle.ix_model.specs.Closure.Useful.{sub_at}
 use Rattle.ix_model.specs.Expansion.Parts.{Parts}
 use Rattle.ix_model.specs.Expansion.Planned.{IsPlanned}
 use Rattle.ix_examples.specs.SmallPlans.{cycle, nothing, only_a}
 use Rattle.ix_examples.proofs.SmallPlans.{planned_a, planned_b}
+use Rattle.ix_cluster.specs.declared.limits.TheConstants.{FACT_LIMIT}
 use Rattle.ix_cluster.specs.declared.fact.Fact.TheVariants as fact
 use Rattle.ix_cluster.specs.Banks.{opening, opening_bank}
 use Rattle.ix_cluster.specs.Firsts.{firsts_of}
@@ -39,7 +40,7 @@ one_sound plan bank sound = record { some = omega arith; few = omega arith; each
     each (suc m) b e = absurd (cc e)
 
 -- the opening, where its one bank is not longer than memory
-pub opening_order : (plan : Parts) → IsPlanned plan → length (after_call plan [] 0 0) + unclaimed_in (after_call plan [] 0 0) < 2 ^ 57 → EveryOrder plan (record { banks = opening plan 1; owed = claims_at 0 (firsts_of plan 0) })
+pub opening_order : (plan : Parts) → IsPlanned plan → length (after_call plan [] 0 0) + unclaimed_in (after_call plan [] 0 0) < FACT_LIMIT → EveryOrder plan (record { banks = opening plan 1; owed = claims_at 0 (firsts_of plan 0) })
 opening_order plan planned bounded = every_order plan planned (record { banks = opening plan 1; owed = claims_at 0 (firsts_of plan 0) }) refl refl (one_sound plan (opening_bank plan 1 0) (sound-begin plan 1 0 planned refl bounded))
 
 -- one more step that follows keeps a state balanced, whether it is owed already or not

@@ -1,5 +1,5 @@
 -- Small states that are balanced though something is recorded without what it comes from.
-use Rattle.std.proofs.Common.{rules, ◌≡◌, Some, ◌∙◌, ℕ, ◌+◌, ◌<◌, ◌^◌, [], ◌∷◌, ◌++◌, Contains, None, codes, length, refl, sym, subst, arith}
+use Rattle.std.proofs.Common.{rules, ◌≡◌, Some, ◌∙◌, ℕ, ◌+◌, ◌<◌, [], ◌∷◌, ◌++◌, Contains, None, codes, length, refl, sym, subst, arith}
 use Rattle.ix_model.specs.Closure.Useful.{sub_at}
 use Rattle.ix_model.specs.Closure.Closed as closed
 use Rattle.ix_model.specs.Expansion.Parts.{Parts}
@@ -8,6 +8,7 @@ use Rattle.ix_model.specs.Expansion.SlotPlaces.{IsFirstSlot}
 use Rattle.ix_model.specs.Expansion.Slots.{info_at}
 use Rattle.ix_examples.proofs.SmallClosures.{desc_1, part_1}
 use Rattle.ix_examples.proofs.SmallPlans.{planned_a, planned_halves}
+use Rattle.ix_cluster.specs.declared.limits.TheConstants.{FACT_LIMIT}
 use Rattle.ix_cluster.specs.declared.fact.Fact.{Fact}
 use Rattle.ix_cluster.specs.declared.fact.Fact.TheVariants as fact
 use Rattle.ix_cluster.specs.Banks.{opening_bank, facts_of}
@@ -56,7 +57,7 @@ module _ (plan : Parts) (bank : Bank) (sound : IsSoundBank plan 1 0 bank) (uncla
   }
 
 -- a descriptor of the closure leaves a bank sound
-sound_desc : (plan : Parts) (old : Bank) (s l p : ℕ) → closed.Desc plan s l p → home (info_at plan s).head l 1 ≡ 0 → length (put old.log (fact.Desc s l p)) + unclaimed_in (put old.log (fact.Desc s l p)) < 2 ^ 57 → IsSoundBank plan 1 0 old → IsSoundBank plan 1 0 (record { log = put old.log (fact.Desc s l p); handed = old.handed })
+sound_desc : (plan : Parts) (old : Bank) (s l p : ℕ) → closed.Desc plan s l p → home (info_at plan s).head l 1 ≡ 0 → length (put old.log (fact.Desc s l p)) + unclaimed_in (put old.log (fact.Desc s l p)) < FACT_LIMIT → IsSoundBank plan 1 0 old → IsSoundBank plan 1 0 (record { log = put old.log (fact.Desc s l p); handed = old.handed })
 sound_desc plan old s l p desc here bounded sound =
     let good =
     good-put plan 1 0 old.log (fact.Desc s l p) (record { at_home = here; closed = desc; later = λ s' l' p' e. absurd (cc e) })

@@ -1,13 +1,14 @@
 -- How often a step is owed.
 use Rattle.std.proofs.Common.{◌≡◌, ℕ, ◌+◌, ◌≤◌, true, false, cond, List, [], ◌∷◌, ◌++◌, remove, Contains, Some, slice_get, sym, ap, subst, inl, inr, arith}
 use Rattle.std.proofs.lemmas.Bool.{false_from_ne_true}
+use Rattle.ix_cluster.proofs.CountBy.{count_cons, count_append, count_none}
 use Rattle.ix_cluster.proofs.FactLemmas.{same_fact-true, same_fact-refl}
 use Rattle.ix_cluster.proofs.Members.{either_has, none_has}
 use Rattle.ix_closure.specs.declared.owed.Owed.{Owed}
 use Rattle.ix_closure.specs.declared.owed.Owed.TheVariants.{Claim, Edge, End, Arrive}
 use Rattle.ix_closure.specs.Follows.{fact_of}
 use Rattle.ix_closure.specs.Quantity.{same_step, times}
-use Rattle.ix_closure.proofs.Lists.ListCounts.{count_cons, count_append, count_remove, count_some, count_none}
+use Rattle.ix_closure.proofs.Lists.ListCounts.{count_remove, count_some}
 use Rattle.ix_closure.proofs.Lists.OnceEach.{IsOnceEach}
 
 -- ---- steps

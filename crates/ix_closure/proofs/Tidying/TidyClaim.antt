@@ -1,5 +1,6 @@
 -- A claim keeps a state tidy.
 use Rattle.std.proofs.Common.{◌≡◌, ℕ, ◌+◌, ◌≤◌, Bool, true, false, cond, List, [], ◌∷◌, ◌++◌, count_by, Contains, refl, sym, ap, ◌∙◌, subst, ◌⊎◌, inl, inr, arith}
+use Rattle.std.proofs.lemmas.Bool.{cases_Bool}
 use Rattle.std.proofs.lemmas.Bool.Decides.{nat_tests}
 use Rattle.ix_model.specs.Closure.Useful.{sub_at}
 use Rattle.ix_model.specs.declared.rules.Sym.TheVariants as sy
@@ -11,8 +12,9 @@ use Rattle.ix_cluster.specs.declared.fact.Fact.{Fact}
 use Rattle.ix_cluster.specs.declared.fact.Fact.TheVariants as fact
 use Rattle.ix_cluster.specs.Banks.{facts_of}
 use Rattle.ix_cluster.specs.Facts.{has, put}
+use Rattle.ix_cluster.proofs.CountBy.{count_append}
 use Rattle.ix_cluster.proofs.Beginning.{at_end_of}
-use Rattle.ix_cluster.proofs.Counts.{either, put-new}
+use Rattle.ix_cluster.proofs.Counts.{put-new}
 use Rattle.ix_cluster.proofs.Members.{one_has, none_has, has-Contains}
 use Rattle.ix_closure.specs.declared.owed.Owed.{Owed}
 use Rattle.ix_closure.specs.declared.owed.Owed.TheVariants.{Claim, Edge, End, Arrive}
@@ -24,7 +26,6 @@ use Rattle.ix_closure.specs.Quantity.{same_step, times, givers, gives}
 use Rattle.ix_closure.specs.Seen.{State}
 use Rattle.ix_closure.specs.Tidy.{IsTidy}
 use Rattle.ix_closure.proofs.Due.DueCauses.{ArrivesBy, cause_of}
-use Rattle.ix_closure.proofs.Lists.ListCounts.{count_append}
 use Rattle.ix_closure.proofs.Tidying.OwedTimes.{same_step_refl, same_step_true}
 use Rattle.ix_closure.proofs.Due.StepLogs.{IsBeside, has_not}
 use Rattle.ix_closure.proofs.Tidying.TidyCauses.{IsSingle, IsBroughtOnce, brought_alone}
@@ -76,7 +77,7 @@ module _ (plan : Parts) (planned : IsPlanned plan) (old new : State) (n : ℕ) (
   given steps (stops t shown after next none) r k e = omega arith
   given steps (inserts m after next) r k e = omega arith
   given steps (calls r' after mark next) r k e = omega arith
-  given steps (ends r' last) r k e = by (either (same_step (End r k e) (End r' l p)))
+  given steps (ends r' last) r k e = by (cases_Bool (same_step (End r k e) (End r' l p)))
     where
       own : gives plan r' l p (fact.Claim s l p) ≡ true
       own = grind (arith, nat_tests, at_end_of plan planned r' s last, (last_reads plan s r' last).1)

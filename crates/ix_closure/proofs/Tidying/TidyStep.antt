@@ -13,6 +13,7 @@ use Rattle.ix_cluster.specs.ClosedFacts.{IsInClosed}
 use Rattle.ix_cluster.specs.Facts.{same_fact}
 use Rattle.ix_cluster.specs.Steps.{empty_sub}
 use Rattle.ix_cluster.proofs.Calls.{IsBegun}
+use Rattle.ix_cluster.proofs.Members.{nth_has}
 use Rattle.ix_closure.specs.declared.owed.Owed.{Owed}
 use Rattle.ix_closure.specs.declared.owed.Owed.TheVariants.{Claim, Edge, End, Arrive}
 use Rattle.ix_closure.specs.Balance.{IsBalanced}
@@ -26,7 +27,7 @@ use Rattle.ix_closure.proofs.Due.DueCauses.{arrival_not_first}
 use Rattle.ix_closure.proofs.Balancing.EventBanks.{SharesHome, HomeMoves, step_due, step_closed, event_moves}
 use Rattle.ix_closure.proofs.Due.FirstSlots.{first_of}
 use Rattle.ix_closure.proofs.Lists.ListCounts.{count_remove}
-use Rattle.ix_closure.proofs.Lists.ListMembers.{nth_has, left_was}
+use Rattle.ix_closure.proofs.Lists.ListMembers.{left_was}
 use Rattle.ix_closure.proofs.Weighing.LogCounts.{count_set, count_after}
 use Rattle.ix_closure.proofs.Tidying.OwedTimes.{times_some, times_none, times_append, times_taken, times_left, fact_of_same}
 use Rattle.ix_closure.proofs.Due.StepLogs.{IsBeside, beside_can, newly_recorded}

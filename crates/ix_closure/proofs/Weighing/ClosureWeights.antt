@@ -12,7 +12,6 @@ use Rattle.ix_cluster.specs.Sound.{AreSound}
 use Rattle.ix_closure.specs.Closure.{IsClosure}
 use Rattle.ix_closure.specs.Quantity.{is_claim, weight, step_bound}
 use Rattle.ix_closure.proofs.Weighing.FactsOnce.{facts_once}
-use Rattle.ix_closure.proofs.Weighing.LogCounts.{tallied}
 use Rattle.ix_closure.proofs.Balancing.RecordedFacts.{recorded_closed}
 use Rattle.ix_closure.proofs.Lists.Sublists.{fewer, fewer_by, fewer_pairs}
 use Rattle.ix_closure.proofs.Weighing.Weights.{weight_in, weight_of_facts}
@@ -47,9 +46,6 @@ module _ (plan : Parts) (all : List Fact) (closure : IsClosure plan all) where
   weight_within facts once closed =
       omega (
         arith,
-        tallied is_descriptor facts,
-        tallied is_claim facts,
-        tallied is_descriptor all,
         fewer is_descriptor facts all once (λ f h _. closure.all f (closed f h)),
         fewer_by is_claim is_descriptor descriptor_fact one_claim facts all once (λ f h e. descriptor_there f (closed f h) e),
         fewer_pairs facts all once (λ f h. closure.all f (closed f h)),

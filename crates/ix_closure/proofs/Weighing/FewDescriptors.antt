@@ -14,7 +14,6 @@ use Rattle.ix_cluster.specs.ClosedFacts.{IsInClosed}
 use Rattle.ix_cluster.specs.Facts.{same_fact}
 use Rattle.ix_closure.proofs.Lists.ListCounts.{length_flat}
 use Rattle.ix_closure.proofs.Lists.ListMembers.{map_has, flat_has}
-use Rattle.ix_closure.proofs.Weighing.LogCounts.{tallied}
 use Rattle.ix_closure.proofs.Lists.Ranges.{range_has}
 use Rattle.ix_closure.proofs.Lists.Sublists.{fewer}
 
@@ -51,9 +50,7 @@ pub few_descriptors : (plan : Parts) → IsPlanned plan → (facts : List Fact) 
 few_descriptors plan planned facts closed once =
     omega (
       arith,
-      tallied is_descriptor facts,
       fewer is_descriptor facts all once there,
-      tallied is_descriptor all,
       count_by-le-length is_descriptor all,
       at_slots_few (length plan.text + 1) (length plan.slots),
     )

@@ -1,83 +1,41 @@
 -- How many facts pass a test, as facts are put into a log, a rule is called, a step is done, and one of several banks changes.
-use Rattle.std.proofs.Common.{◌≡◌, ℕ, ◌+◌, ◌≤◌, Bool, true, false, cond, List, [], ◌∷◌, ◌++◌, count_by, Some, slice_get, slice_set, refl, ap, arith}
+use Rattle.std.proofs.Common.{◌≡◌, ℕ, ◌+◌, ◌≤◌, Bool, true, false, cond, List, [], ◌∷◌, count_by, Some, slice_get, slice_set, refl, ap, arith}
 use Rattle.std.specs.List.{sum_by}
-use Rattle.std.proofs.lemmas.List.Recursion.{is_count_by}
 use Rattle.std.proofs.lemmas.List.Sums.{sum_by-cons}
 use Rattle.ix_model.specs.Expansion.Parts.{Parts}
 use Rattle.ix_cluster.specs.declared.fact.Fact.{Fact}
 use Rattle.ix_cluster.specs.declared.fact.Fact.TheVariants as fact
 use Rattle.ix_cluster.specs.Banks.{facts_of}
 use Rattle.ix_cluster.specs.Facts.{has, put}
-use Rattle.ix_cluster.specs.Firsts.{is_at_end, firsts_of}
-use Rattle.ix_cluster.specs.Room.{tally}
 use Rattle.ix_cluster.specs.Seen.{Bank}
-use Rattle.ix_cluster.specs.Steps.{empty_sub, after_first, after_firsts, after_call}
+use Rattle.ix_cluster.specs.Steps.{empty_sub, after_call}
+use Rattle.ix_cluster.proofs.CountBy.{count_append}
 use Rattle.ix_cluster.proofs.Counts.{put-new}
+use Rattle.ix_cluster.proofs.Recording.{put_both, along_call, along_step}
 use Rattle.ix_closure.specs.declared.owed.Owed.{Owed}
-use Rattle.ix_closure.specs.declared.owed.Owed.TheVariants.{Claim, Edge, End, Arrive}
-use Rattle.ix_closure.specs.Events.{log_after}
-use Rattle.ix_closure.proofs.Lists.ListCounts.{count_append, sum_set}
-
--- the two counts of what passes a test are one
-pub tallied : (p : Fact → Bool) (xs : List Fact) → tally p xs ≡ count_by p xs
-tallied p xs = is_count_by (tally p) p refl one xs
-  where
-    one : (x : Fact) (ys : List Fact) → tally p (x ∷ ys) ≡ cond (p x) (1 + tally p ys) (tally p ys)
-    one x ys = by (p x)
-      where
-        by : (b : Bool) → cond b 1 0 + tally p ys ≡ cond b (1 + tally p ys) (tally p ys)
-        by true = refl
-        by false = omega arith
+use Rattle.ix_closure.specs.Events.{call_of, log_after}
+use Rattle.ix_closure.proofs.Lists.ListCounts.{sum_set}
 
 module _ (p : Fact → Bool) where
   -- ---- in one log
 
   -- a log that a fact is put into counts no fewer
   pub count_put : (log : List Fact) (f : Fact) → count_by p log ≤ count_by p (put log f)
-  count_put log f = by (has log f)
-    where
-      by : (b : Bool) → count_by p log ≤ count_by p (cond b log (log ++ f ∷ []))
-      by true = omega arith
-      by false = omega (arith, count_append p log (f ∷ []))
+  count_put log f = put_both (λ new. count_by p log ≤ count_by p new) log f (λ _. omega arith) (λ _. omega (arith, count_append p log (f ∷ [])))
 
   -- and one more where the fact is new and passes
   pub count_put_new : (log : List Fact) (f : Fact) → has log f ≡ false → p f ≡ true → count_by p log + 1 ≤ count_by p (put log f)
   count_put_new log f none passes = rw (put-new log f none) (omega (arith, count_append p log (f ∷ []), ap {B = ℕ} (λ b. cond b 1 0) passes))
 
-  module _ (plan : Parts) (k : ℕ) where
-    count_first : (log : List Fact) (s : ℕ) → count_by p log ≤ count_by p (after_first plan k log s)
-    count_first log s = by (is_at_end plan s)
-      where
-        by : (b : Bool) → count_by p log ≤ count_by p (cond b (put (put log (fact.Desc s k k)) (fact.Part (empty_sub s k))) (put log (fact.Desc s k k)))
-        by true = omega (arith, count_put log (fact.Desc s k k), count_put (put log (fact.Desc s k k)) (fact.Part (empty_sub s k)))
-        by false = count_put log (fact.Desc s k k)
-
-    count_firsts : (firsts : List ℕ) (log : List Fact) → count_by p log ≤ count_by p (after_firsts plan k firsts log)
-    count_firsts [] log = omega arith
-    count_firsts (s ∷ ss) log = omega (arith, count_first log s, count_firsts ss (after_first plan k log s))
-
-    -- a call forgets no fact that is counted
-    pub count_call : (log : List Fact) (r : ℕ) → count_by p log ≤ count_by p (after_call plan log r k)
-    count_call log r = by (has log (fact.Called r k))
-      where
-        by : (b : Bool) → count_by p log ≤ count_by p (cond b log (after_firsts plan k (firsts_of plan r) (put log (fact.Called r k))))
-        by true = omega arith
-        by false = omega (arith, count_put log (fact.Called r k), count_firsts (firsts_of plan r) (put log (fact.Called r k)))
+  -- a call forgets no fact that is counted
+  pub count_call : (plan : Parts) (k : ℕ) (log : List Fact) (r : ℕ) → count_by p log ≤ count_by p (after_call plan log r k)
+  count_call plan k log r =
+      along_call (λ before after. count_by p before ≤ count_by p after) (λ _. omega arith) (λ _ _ _ e w. omega (arith, e, w)) plan k (λ l s. count_put l (fact.Desc s k k)) (λ l s. count_put l (fact.Part (empty_sub s k))) r
+      (λ l. count_put l (fact.Called r k)) log
 
   -- and neither does a step
   pub count_after : (plan : Parts) (log : List Fact) (o : Owed) → count_by p log ≤ count_by p (log_after plan log o)
-  count_after plan log (Claim s l e) = by (has log (fact.Desc s l e))
-    where
-      by : (b : Bool) → count_by p log ≤ count_by p (cond b (put log (fact.Claim s l e)) log)
-      by true = count_put log (fact.Claim s l e)
-      by false = omega arith
-  count_after plan log (Edge r k s l) = by (has log (fact.Edge r k s l))
-    where
-      by : (b : Bool) → count_by p log ≤ count_by p (cond b log (put (after_call plan log r k) (fact.Edge r k s l)))
-      by true = omega arith
-      by false = omega (arith, count_call plan k log r, count_put (after_call plan log r k) (fact.Edge r k s l))
-  count_after plan log (End r k e) = count_put log (fact.End r k e)
-  count_after plan log (Arrive sub) = omega (arith, count_put log (fact.Part sub), count_put (put log (fact.Part sub)) (fact.Desc sub.slot sub.left sub.right))
+  count_after plan log o = along_step (λ before after. count_by p before ≤ count_by p after) (λ _. omega arith) (λ _ _ _ e w. omega (arith, e, w)) count_put plan log (call_of o)
 
   -- ---- in all banks
 

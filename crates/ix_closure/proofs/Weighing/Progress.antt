@@ -22,7 +22,8 @@ use Rattle.ix_closure.specs.Seen.{State}
 use Rattle.ix_closure.proofs.Lists.ListCounts.{count_all}
 use Rattle.ix_closure.proofs.Weighing.LogCounts.{count_put, count_put_new, count_call, count_after, count_set}
 
-put_longer : (log : List Fact) (f : Fact) → length log ≤ length (put log f)
+-- a log is not shorter after a fact is put into it
+pub put_longer : (log : List Fact) (f : Fact) → length log ≤ length (put log f)
 put_longer log f = omega (arith, count_all log, count_all (put log f), count_put (λ _. true) log f)
 
 put_one_longer : (log : List Fact) (f : Fact) → has log f ≡ false → length log + 1 ≤ length (put log f)

@@ -6,14 +6,14 @@ use Rattle.ix_cluster.specs.declared.fact.Fact.{Fact}
 use Rattle.ix_cluster.specs.Banks.{is_descriptor, facts_of}
 use Rattle.ix_cluster.specs.Handed.{meets, pair_count}
 use Rattle.ix_cluster.specs.Seen.{Bank}
+use Rattle.ix_cluster.proofs.CountBy.{count_append}
 use Rattle.ix_closure.specs.Quantity.{is_claim, weight}
-use Rattle.ix_closure.proofs.Lists.ListCounts.{count_append, sum_set}
-use Rattle.ix_closure.proofs.Weighing.LogCounts.{tallied}
+use Rattle.ix_closure.proofs.Lists.ListCounts.{sum_set}
 
 -- two lists behind one another have the pairs of both, and those of one with the other
 pub pairs_append : (xs ys : List Fact) → pair_count xs + pair_count ys ≤ pair_count (xs ++ ys)
 pairs_append [] ys = omega arith
-pairs_append (x ∷ xs) ys = omega (arith, pairs_append xs ys, tallied (meets x) (xs ++ ys), tallied (meets x) xs, tallied (meets x) ys, count_append (meets x) xs ys)
+pairs_append (x ∷ xs) ys = omega (arith, pairs_append xs ys, count_append (meets x) xs ys)
 
 pub weight_append : (xs ys : List Fact) → weight xs + weight ys ≤ weight (xs ++ ys)
 weight_append xs ys = omega (arith, count_append is_descriptor xs ys, count_append is_claim xs ys, pairs_append xs ys)

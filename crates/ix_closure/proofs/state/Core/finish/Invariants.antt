@@ -1,4 +1,5 @@
 use Rattle.std.proofs.Common.{◌≡◌, ◌+◌, ◌-◌, ◌*◌, ◌^◌, length}
+use Rattle.ix_cluster.specs.declared.limits.TheConstants.{BANK_LIMIT, FACT_LIMIT}
 use Rattle.ix_cluster.specs.Banks.{facts_of}
 use Rattle.ix_closure.specs.LastRuns.{IsReachedByLast}
 use Rattle.ix_closure.proofs.state.Core.finish.Given as goal
@@ -10,4 +11,4 @@ invariant-loop-core l = record {
 }
 
 abbrev pub decreases-loop-core : goal.decreases-loop-core
-decreases-loop-core l = (2 ^ 63 - length (facts_of l.core.state.banks)) * 2 ^ 64 + length l.core.state.owed
+decreases-loop-core l = (BANK_LIMIT * FACT_LIMIT - length (facts_of l.core.state.banks)) * 2 ^ 64 + length l.core.state.owed

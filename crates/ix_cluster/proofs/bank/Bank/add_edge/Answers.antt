@@ -1,4 +1,5 @@
-use Rattle.std.proofs.Common.{arith, ap₂, ◌≡◌, ◌∙◌, ◌+◌, ◌<◌, ◌^◌, List, length, sym, ap, subst, rules}
+use Rattle.std.proofs.Common.{arith, ap₂, ◌≡◌, ◌∙◌, ◌+◌, ◌<◌, List, length, sym, ap, subst, rules}
+use Rattle.ix_cluster.specs.declared.limits.TheConstants.{FACT_LIMIT}
 use Rattle.ix_cluster.specs.declared.fact.Fact.{Fact}
 use Rattle.ix_cluster.specs.BankSteps.{AddEdge, Opens}
 use Rattle.ix_cluster.specs.Lists.{cluster}
@@ -55,7 +56,7 @@ returns-then-not-add-clause-sound c count m sound closed here =
 
 pub overflow_add-self : goal.overflow_add-self
 overflow_add-self c =
-    let small : length c.self.inside.log.facts < 2 ^ 57 = omega (arith, c.in_ok-reserve.ensures.small, ap length c.in_ok-reserve.ensures.facts) in
+    let small : length c.self.inside.log.facts < FACT_LIMIT = omega (arith, c.in_ok-reserve.ensures.small, ap length c.in_ok-reserve.ensures.facts) in
     omega (arith, handed-small c.self.inside.log.facts small, c.self.invariant.kept.counted, c.len.type_inv)
 
 pub invariant_of-self-2 : goal.invariant_of-self-2
