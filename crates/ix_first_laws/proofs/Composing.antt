@@ -1,0 +1,111 @@
+-- The first tree from its choices: first trees of a sequence by the least start of the last one, a node by its least alternative.
+use Rattle.std.proofs.Common.{◌≡◌, refl, sym, ap, subst, ◌∙◌, ◌⊎◌, ◌<◌, ◌≤◌, ℕ, suc, List, length, arith, slice_get, Some, Option}
+use Rattle.std.proofs.lemmas.Bool.{cases_order}
+use mathlib.Core.Logic.{inl, inr}
+use Rattle.ix_model.specs.declared.grammar.Mark.{Mark}
+use Rattle.ix_model.specs.declared.rules.Kind.TheVariants as kind
+use Rattle.ix_model.specs.declared.rules.Sym.{Sym}
+use Rattle.ix_model.specs.declared.rules.Sym.TheVariants as sy
+use Rattle.ix_model.specs.Expansion.Parts.{Parts}
+use Rattle.ix_model.specs.Expansion.Numbered.{kind_at, lines_at, syms_at}
+use Rattle.ix_model.specs.Expansion.FlatTrees.{FlatTree, flat_text, flat_insertion, flat_node, FlatTrees, no_flat, flats_and, flat_count}
+use Rattle.ix_model.specs.Expansion.FlatDerives.{FlatDerives, FlatDerivesFirst, IsLine}
+use Rattle.ix_model.specs.Expansion.FlatHeights.{flat_height, flat_heights}
+use Rattle.ix_model.specs.Expansion.FlatOrder.{FlatBefore, FlatsBefore}
+use Rattle.ix_model.proofs.Decide.{Answered}
+use Rattle.ix_closure_laws.proofs.FlatWidths.{width_is}
+use Rattle.ix_tree_laws.proofs.Found.{InSomeOrder}
+use Rattle.ix_first_laws.specs.Bounded.{TreeWithin, TreesWithin, IsBestTree, IsBestTrees}
+use Rattle.ix_first_laws.specs.Least.{AltWithin}
+use Rattle.ix_first_laws.proofs.Chains.{pair_first}
+use Rattle.ix_first_laws.proofs.Lines.{line_syms, line_is}
+use Rattle.ix_first_laws.proofs.NodeKinds.{Helper, raised_helper, raised_named, AltBefore, NodeOrSame, helper_or_same, named_or_same, lower_named}
+
+module _ (plan : Parts) (b : ℕ) where
+  -- ---- sequences
+
+  module _ (syms : List Sym) where
+    pub nothing_yet : (i j : ℕ) → i ≡ j → IsBestTrees plan b syms 0 i j no_flat
+    nothing_yet i j e = record { within = (e, refl, omega arith); before = others }
+      where
+        others : (es : FlatTrees) → TreesWithin plan b syms 0 i j es → (es ≡ no_flat) ⊎ FlatsBefore plan.rules no_flat es j
+        others no_flat h = inl refl
+        others (flats_and es e) h = absurd (omega (arith, h.1))
+
+    -- one more tree, where the last one starts at the least number that fits
+    pub longer : (n : ℕ) (x : Sym) (i j k : ℕ) (ds : FlatTrees) (d : FlatTree) → slice_get syms n ≡ Some x → IsBestTrees plan b syms n i k ds → IsBestTree plan b x k j d →
+        ((l : ℕ) (es : FlatTrees) (e : FlatTree) → l < k → TreesWithin plan b syms n i l es → TreeWithin plan b x l j e → ⊥) → IsBestTrees plan b syms (suc n) i j (flats_and ds d)
+    longer n x i j k ds d at y z least = record {
+      within = ((k, x, y.within.0, subst (λ (m : ℕ). slice_get syms m ≡ Some x) (sym y.within.1) at, z.within.0), omega (arith, y.within.1), omega (arith, y.within.2, z.within.1));
+      before = others;
+    }
+      where
+        others : (es : FlatTrees) → TreesWithin plan b syms (suc n) i j es → (es ≡ flats_and ds d) ⊎ FlatsBefore plan.rules (flats_and ds d) es j
+        others no_flat h = absurd (omega (arith, h.1))
+        others (flats_and es e) ((l, x', a, at', c), count, high) =
+            let m : flat_count es ≡ n = omega (arith, count) in
+            let q : x' ≡ x = cc (m, at, at') in
+            let c' : FlatDerives plan e x l j = subst (λ z. FlatDerives plan e z l j) q c in
+            let ha : flat_heights plan.rules es ≤ b = omega (arith, high) in
+            let hc : flat_height plan.rules e ≤ b = omega (arith, high) in
+            pair_first plan.rules ds es d e k l j (width_is plan d x k j z.within.0) (width_is plan e x l j c') (λ h. least l es e h (a, m, ha) (c', hc))
+            (λ h. y.before es (subst (λ (z : ℕ). FlatDerivesFirst plan es syms i z) h a, m, ha))
+            (λ h. z.before e (subst (λ (z : ℕ). FlatDerives plan e x z j) h c', hc))
+
+  -- ---- nodes of alternative a of rule r, where no earlier alternative fits the bound
+
+  module _ (r i j a : ℕ) (ds : FlatTrees) (inside : a < length (lines_at plan.rules r)) (first : IsBestTrees plan b (syms_at plan.rules r a) (length (syms_at plan.rules r a)) i j ds)
+      (early : (c : ℕ) (es : FlatTrees) → c < a → AltWithin plan b r i j c es → ⊥) (m : Option Mark) where
+    by_line : (c : ℕ) (es : FlatTrees) (syms : List Sym) → IsLine plan r c syms → flat_count es ≡ length syms → FlatDerivesFirst plan es syms i j → flat_heights plan.rules es ≤ b →
+        ((a ≡ c) × (es ≡ ds)) ⊎ AltBefore plan.rules r a ds j c es
+    by_line c es syms l count h high = by_number (cases_order a c)
+      where
+        at : AltWithin plan b r i j c es
+        at = subst (λ z. TreesWithin plan b z (length z) i j es) (sym (line_syms plan r c syms l)) (h, count, high)
+
+        same : a ≡ c → (es ≡ ds) ⊎ FlatsBefore plan.rules ds es j → ((a ≡ c) × (es ≡ ds)) ⊎ AltBefore plan.rules r a ds j c es
+        same e (inl p) = inl (e, p)
+        same e (inr p) = inr (inr (e, p))
+
+        by_number : InSomeOrder a c → ((a ≡ c) × (es ≡ ds)) ⊎ AltBefore plan.rules r a ds j c es
+        by_number (inl k) = same k (first.before es (subst (λ (z : ℕ). AltWithin plan b r i j z es) (sym k) at))
+        by_number (inr (inl k)) = inr (inl k)
+        by_number (inr (inr k)) = absurd (early c es k at)
+
+    derived : FlatDerives plan (flat_node r a ds) (sy.Rule r m) i j
+    derived = (m, refl, syms_at plan.rules r a, line_is plan r a inside, first.within.1, first.within.0)
+
+    -- a helper is no higher than its trees
+    pub helper_node : Helper (kind_at plan.rules r) → IsBestTree plan b (sy.Rule r m) i j (flat_node r a ds)
+    helper_node helper = record { within = (derived, omega (arith, first.within.2, raised_helper (kind_at plan.rules r) (flat_heights plan.rules ds) helper)); before = others }
+      where
+        others : (z : FlatTree) → TreeWithin plan b (sy.Rule r m) i j z → (z ≡ flat_node r a ds) ⊎ FlatBefore plan.rules (flat_node r a ds) z j
+        others (flat_text x y) h = absurd (cc h.0.2.3)
+        others flat_insertion h = absurd (cc h.0.1)
+        others (flat_node q c es) ((m', is, syms, l, count, h), high) =
+            let e : q ≡ r = cc is in
+            let under : flat_heights plan.rules es ≤ b = omega (arith, high, raised_helper (kind_at plan.rules q) (flat_heights plan.rules es) (λ k. helper (sym (ap (kind_at plan.rules) e) ∙ k))) in
+            subst (λ (z : ℕ). (flat_node z c es ≡ flat_node r a ds) ⊎ FlatBefore plan.rules (flat_node r a ds) (flat_node z c es) j) (sym e)
+            (helper_or_same plan.rules r a ds j helper c es (by_line c es syms (subst (λ (z : ℕ). IsLine plan z c syms) e l) count h under))
+
+    -- a named rule under every greater bound, where all its trees over the span have b below at least
+    pub named_node : (high : ℕ) → b < high → kind_at plan.rules r ≡ kind.Named → ((c : ℕ) (es : FlatTrees) → FlatDerives plan (flat_node r c es) (sy.Rule r m) i j → b ≤ flat_heights plan.rules es) →
+        IsBestTree plan high (sy.Rule r m) i j (flat_node r a ds)
+    named_node high over named least = record { within = (derived, omega (arith, over, first.within.2, raised_named (kind_at plan.rules r) (flat_heights plan.rules ds) named)); before = others }
+      where
+        full : flat_heights plan.rules ds ≡ b
+        full = omega (arith, first.within.2, least a ds derived)
+
+        by_height : (c : ℕ) (es : FlatTrees) (syms : List Sym) → IsLine plan r c syms → flat_count es ≡ length syms → FlatDerivesFirst plan es syms i j → b ≤ flat_heights plan.rules es →
+            Answered (flat_heights plan.rules es ≤ b) → NodeOrSame plan.rules r a ds j c es
+        by_height c es syms l count h more (inl k) = named_or_same plan.rules r a ds j named c es (omega (arith, full, more, k)) (by_line c es syms l count h k)
+        by_height c es syms l count h more (inr k) = lower_named plan.rules r a ds j named c es (grind (arith, full, more, k))
+
+        others : (z : FlatTree) → TreeWithin plan high (sy.Rule r m) i j z → (z ≡ flat_node r a ds) ⊎ FlatBefore plan.rules (flat_node r a ds) z j
+        others (flat_text x y) h = absurd (cc h.0.2.3)
+        others flat_insertion h = absurd (cc h.0.1)
+        others (flat_node q c es) ((m', is, syms, l', count, h), _) =
+            let e : q ≡ r = cc is in
+            let l : IsLine plan r c syms = subst (λ (z : ℕ). IsLine plan z c syms) e l' in
+            subst (λ (z : ℕ). (flat_node z c es ≡ flat_node r a ds) ⊎ FlatBefore plan.rules (flat_node r a ds) (flat_node z c es) j) (sym e)
+            (by_height c es syms l count h (least c es (m, refl, syms, l, count, h)) (grind arith))

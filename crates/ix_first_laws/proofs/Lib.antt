@@ -1,0 +1,13 @@
+pub mod Alternatives
+pub mod Chains
+pub mod Composing
+pub mod FirstTrees
+pub mod FlatAsym
+pub mod FlatFound
+pub mod FlatFoundAll
+pub mod HelperTrees
+pub mod Lines
+pub mod NamedTrees
+pub mod NestedAnswered
+pub mod NodeKinds
+pub mod Symbols

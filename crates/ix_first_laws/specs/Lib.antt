@@ -1,0 +1,3 @@
+pub mod Bounded
+pub mod Least
+pub mod Nested

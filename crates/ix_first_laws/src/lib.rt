@@ -1,0 +1,2 @@
+//! Laws of least heights and of the first derivation over the numbered rules.
+#![tactic(auto)]
