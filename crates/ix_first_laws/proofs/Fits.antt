@@ -1,5 +1,5 @@
 -- Which written trees the alternatives of a helper have, by the helper's kind: those of each derivation are so.
-use Rattle.std.proofs.Common.{◌≡◌, refl, sym, ap, subst, ◌∙◌, ◌⊎◌, ◌≤◌, ◌<◌, ℕ, zero, suc, List, [], ◌∷◌, length, Option, Some, None, arith, slice_get}
+use Rattle.std.proofs.Common.{◌≡◌, sym, ap, subst, ◌∙◌, ◌<◌, ℕ, zero, suc, List, [], ◌∷◌, length, Option, Some, None, arith, slice_get}
 use Rattle.std.proofs.lemmas.Option.{slice_get_within}
 use mathlib.Core.Logic.{inl, inr}
 use Rattle.ix_model.specs.declared.grammar.Grammar.{Grammar}
@@ -7,13 +7,14 @@ use Rattle.ix_model.specs.declared.rules.Kind.{Kind}
 use Rattle.ix_model.specs.declared.rules.Kind.TheVariants as kind
 use Rattle.ix_model.specs.declared.rules.Sym.{Sym}
 use Rattle.ix_model.specs.declared.rules.Sym.TheVariants as sy
+use Rattle.ix_model.specs.declared.rules.Rules.{Rules}
 use Rattle.ix_model.specs.Derivations.Trees.{Tree, list, Trees, no_tree, and, Repeated, one, again, again_after}
 use Rattle.ix_model.specs.Expansion.Parts.{Parts}
 use Rattle.ix_model.specs.Expansion.Numbered.{kind_at}
 use Rattle.ix_model.specs.Expansion.FlatTrees.{FlatTree, flat_text, flat_insertion, flat_node, FlatTrees, no_flat, flats_and, flat_count}
 use Rattle.ix_model.specs.Expansion.FlatDerives.{FlatDerives, FlatDerivesFirst, IsLine}
 use Rattle.ix_model.specs.Expansion.Lift.{lift, lift_all, lifted, list_of, parts}
-use Rattle.ix_model.specs.Expansion.Expanded.{next_syms, HasFlat, Expanded}
+use Rattle.ix_model.specs.Expansion.Expanded.{next_syms, Expanded}
 use Rattle.ix_model.proofs.Decide.{Answered}
 use Rattle.ix_expansion_laws.proofs.Children.{AllOf, one_child, two_children, three_children}
 use Rattle.ix_expansion_laws.proofs.Covering.{only_named}
@@ -50,6 +51,35 @@ Fits kind.List a ts = ListFits a ts
 abbrev pub AllFit : Parts → Type 0
 AllFit plan = (r a : ℕ) (ds : FlatTrees) (x : Sym) (i j : ℕ) → FlatDerives plan (flat_node r a ds) x i j → Fits (kind_at plan.rules r) a (lift_all plan.rules ds)
 
+-- ---- the written trees of one, two or three trees
+
+module _ (rules : Rules) where
+  one_lifts : (ds : FlatTrees) (d : FlatTree) → ds ≡ flats_and no_flat d → lift_all rules ds ≡ and no_tree (lift rules d)
+  one_lifts ds d h = ap (lift_all rules) h
+
+  two_lift : (ds : FlatTrees) (d e : FlatTree) → ds ≡ flats_and (flats_and no_flat d) e → lift_all rules ds ≡ and (and no_tree (lift rules d)) (lift rules e)
+  two_lift ds d e h = ap (lift_all rules) h
+
+  three_lift : (ds : FlatTrees) (d e f : FlatTree) → ds ≡ flats_and (flats_and (flats_and no_flat d) e) f → lift_all rules ds ≡ and (and (and no_tree (lift rules d)) (lift rules e)) (lift rules f)
+  three_lift ds d e f h = ap (lift_all rules) h
+
+-- their lists
+list_of_one : (ts : Trees) (d : Tree) → ts ≡ and no_tree d → list_of ts ≡ list (one d)
+list_of_one ts d h = ap list_of h
+
+list_of_two : (ts : Trees) (c d : Tree) → ts ≡ and (and no_tree c) d → list_of ts ≡ list (again (parts c) d)
+list_of_two ts c d h = ap list_of h
+
+list_of_three : (ts : Trees) (c e d : Tree) → ts ≡ and (and (and no_tree c) e) d → list_of ts ≡ list (again_after (parts c) e d)
+list_of_three ts c e d h = ap list_of h
+
+-- what fits with a list in the place of the first tree
+next_fits : (ts : Trees) (c d : Tree) (rs : Repeated) → ts ≡ and (and no_tree c) d → c ≡ list rs → ListFits 1 ts
+next_fits ts c d rs h k = subst (λ z. ListFits 1 z) (sym (h ∙ ap (λ z. and (and no_tree z) d) k)) (next_item rs d)
+
+after_fits : (ts : Trees) (c e d : Tree) (rs : Repeated) → ts ≡ and (and (and no_tree c) e) d → c ≡ list rs → ListFits 1 ts
+after_fits ts c e d rs h k = subst (λ z. ListFits 1 z) (sym (h ∙ ap (λ z. and (and (and no_tree z) e) d) k)) (item_after rs e d)
+
 -- ---- under the numbered rules of a grammar
 
 abbrev Whatever : FlatTree → Type 0
@@ -75,15 +105,15 @@ module _ (g : Grammar) (plan : Parts) (e : Expanded g plan.rules) where
   list_line r zero es x s syms i j q n h =
       let k : syms ≡ x ∷ [] = cc q in
       let v = one_child plan Whatever es (whatever es) x i j (n ∙ ap length k) (subst (λ zs. FlatDerivesFirst plan es zs i j) k h) in
-      (one (lift plan.rules v.0), ap (λ ts. list_of (lift_all plan.rules ts)) v.1)
+      (one (lift plan.rules v.0), list_of_one _ _ (one_lifts plan.rules es v.0 v.1))
   list_line r (suc zero) es x None syms i j q n h =
       let k : syms ≡ sy.Rule r None ∷ x ∷ [] = cc q in
       let v = two_children plan Whatever es (whatever es) (sy.Rule r None) x i j (n ∙ ap length k) (subst (λ zs. FlatDerivesFirst plan es zs i j) k h) in
-      (again (parts (lift plan.rules v.0)) (lift plan.rules v.1), ap (λ ts. list_of (lift_all plan.rules ts)) v.3)
+      (again (parts (lift plan.rules v.0)) (lift plan.rules v.1), list_of_two _ _ _ (two_lift plan.rules es v.0 v.1 v.3))
   list_line r (suc zero) es x (Some y) syms i j q n h =
       let k : syms ≡ sy.Rule r None ∷ y ∷ x ∷ [] = cc q in
       let v = three_children plan Whatever es (whatever es) (sy.Rule r None) y x i j (n ∙ ap length k) (subst (λ zs. FlatDerivesFirst plan es zs i j) k h) in
-      (again_after (parts (lift plan.rules v.0)) (lift plan.rules v.1) (lift plan.rules v.2), ap (λ ts. list_of (lift_all plan.rules ts)) v.5)
+      (again_after (parts (lift plan.rules v.0)) (lift plan.rules v.1) (lift plan.rules v.2), list_of_three _ _ _ _ (three_lift plan.rules es v.0 v.1 v.2 v.5))
   list_line r (suc (suc c)) es x s syms i j q n h = absurd (cc q)
 
   list_lifts : (r : ℕ) (d : FlatTree) (i j : ℕ) → kind_at plan.rules r ≡ kind.List → FlatDerives plan d (sy.Rule r None) i j → (rs : Repeated) × (lift plan.rules d ≡ list rs)
@@ -110,7 +140,7 @@ module _ (g : Grammar) (plan : Parts) (e : Expanded g plan.rules) where
   option_fits zero ds x syms i j q n h =
       let k : syms ≡ x ∷ [] = cc q in
       let v = one_child plan Whatever ds (whatever ds) x i j (n ∙ ap length k) (subst (λ zs. FlatDerivesFirst plan ds zs i j) k h) in
-      subst (λ es. OptionFits 0 (lift_all plan.rules es)) (sym v.1) (held (lift plan.rules v.0))
+      subst (OptionFits 0) (sym (one_lifts plan.rules ds v.0 v.1)) (held (lift plan.rules v.0))
   option_fits (suc zero) no_flat x syms i j q n h = not_there
   option_fits (suc zero) (flats_and ds d) x syms i j q n h = let k : syms ≡ [] = cc q in absurd (omega (arith, n ∙ ap length k))
   option_fits (suc (suc a)) ds x syms i j q n h = absurd (cc q)
@@ -123,7 +153,7 @@ module _ (g : Grammar) (plan : Parts) (e : Expanded g plan.rules) where
       let k : syms ≡ sy.Rule p None ∷ [] = cc q in
       let v = one_child plan Whatever ds (whatever ds) (sy.Rule p None) i j (n ∙ ap length k) (subst (λ zs. FlatDerivesFirst plan ds zs i j) k h) in
       let w = list_lifts p v.0 i j l v.3 in
-      subst (λ es. StarFits 1 (lift_all plan.rules es)) (sym v.1) (subst (λ t. StarFits 1 (and no_tree t)) (sym w.1) (items w.0))
+      subst (StarFits 1) (sym (one_lifts plan.rules ds v.0 v.1 ∙ ap (and no_tree) w.1)) (items w.0)
   star_fits (suc (suc a)) ds p syms i j l q n h = absurd (cc q)
 
   list_fits : (r a : ℕ) (ds : FlatTrees) (x : Sym) (s : Option Sym) (syms : List Sym) (i j : ℕ) → kind_at plan.rules r ≡ kind.List → slice_get ((x ∷ []) ∷ next_syms r x s ∷ []) a ≡ Some syms → flat_count ds ≡ length syms → FlatDerivesFirst plan ds syms i j →
@@ -131,18 +161,17 @@ module _ (g : Grammar) (plan : Parts) (e : Expanded g plan.rules) where
   list_fits r zero ds x s syms i j l q n h =
       let k : syms ≡ x ∷ [] = cc q in
       let v = one_child plan Whatever ds (whatever ds) x i j (n ∙ ap length k) (subst (λ zs. FlatDerivesFirst plan ds zs i j) k h) in
-      subst (λ es. ListFits 0 (lift_all plan.rules es)) (sym v.1) (only_item (lift plan.rules v.0))
+      subst (ListFits 0) (sym (one_lifts plan.rules ds v.0 v.1)) (only_item (lift plan.rules v.0))
   list_fits r (suc zero) ds x None syms i j l q n h =
       let k : syms ≡ sy.Rule r None ∷ x ∷ [] = cc q in
       let v = two_children plan Whatever ds (whatever ds) (sy.Rule r None) x i j (n ∙ ap length k) (subst (λ zs. FlatDerivesFirst plan ds zs i j) k h) in
       let w = list_lifts r v.0 i v.2 l v.6 in
-      subst (λ es. ListFits 1 (lift_all plan.rules es)) (sym v.3) (subst (λ t. ListFits 1 (and (and no_tree t) (lift plan.rules v.1))) (sym w.1) (next_item w.0 (lift plan.rules v.1)))
+      next_fits (lift_all plan.rules ds) (lift plan.rules v.0) (lift plan.rules v.1) w.0 (two_lift plan.rules ds v.0 v.1 v.3) w.1
   list_fits r (suc zero) ds x (Some y) syms i j l q n h =
       let k : syms ≡ sy.Rule r None ∷ y ∷ x ∷ [] = cc q in
       let v = three_children plan Whatever ds (whatever ds) (sy.Rule r None) y x i j (n ∙ ap length k) (subst (λ zs. FlatDerivesFirst plan ds zs i j) k h) in
       let w = list_lifts r v.0 i v.3 l v.9 in
-      subst (λ es. ListFits 1 (lift_all plan.rules es)) (sym v.5)
-      (subst (λ t. ListFits 1 (and (and (and no_tree t) (lift plan.rules v.1)) (lift plan.rules v.2))) (sym w.1) (item_after w.0 (lift plan.rules v.1) (lift plan.rules v.2)))
+      after_fits (lift_all plan.rules ds) (lift plan.rules v.0) (lift plan.rules v.1) (lift plan.rules v.2) w.0 (three_lift plan.rules ds v.0 v.1 v.2 v.5) w.1
   list_fits r (suc (suc a)) ds x s syms i j l q n h = absurd (cc q)
 
   pub all_fit : AllFit plan

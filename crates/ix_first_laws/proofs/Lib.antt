@@ -1,9 +1,11 @@
 pub mod Alternatives
 pub mod Chains
 pub mod Composing
+pub mod FirstLifts
 pub mod FirstTrees
 pub mod Fits
 pub mod FlatAsym
+pub mod FlatFirsts
 pub mod FlatFound
 pub mod FlatFoundAll
 pub mod HelperShapes
@@ -16,4 +18,5 @@ pub mod NamedTrees
 pub mod NestedAnswered
 pub mod Nesting
 pub mod NodeKinds
+pub mod SameFlat
 pub mod Symbols

@@ -2,7 +2,7 @@
 use Rattle.std.proofs.Common.{◌≡◌, sym, ap, subst, ◌∙◌, ◌⊎◌, ◌+◌, ◌-◌, ◌<◌, ℕ, List, length, arith}
 use mathlib.Core.Logic.{inl, inr}
 use Rattle.ix_model.specs.declared.rules.Sym.{Sym}
-use Rattle.ix_model.specs.Derivations.Trees.{tree_count, width, widths}
+use Rattle.ix_model.specs.Derivations.Trees.{width, widths}
 use Rattle.ix_model.specs.Derivations.Order.{Before, AllBefore}
 use Rattle.ix_model.specs.Expansion.Parts.{Parts}
 use Rattle.ix_model.specs.Expansion.Numbered.{kind_at}
@@ -49,12 +49,12 @@ module _ (plan : Parts) where
           let same : a ≡ c → h.2 ≡ k'.2 = λ n. same_line plan r a h.2 k'.2 h.3 (subst (λ (z : ℕ). IsLine plan r z k'.2) (sym n) k'.3) in
           let counts : a ≡ c → flat_count ds ≡ flat_count es = λ n. h.4 ∙ ap length (same n) ∙ sym k'.4 in
           let rest : (a < c) ⊎ (a ≡ c) × FlatsBefore plan.rules ds es j → LineBefore a c (lift_all plan.rules ds) (lift_all plan.rules es) j =
-                  at_numbers a c _ _ (λ n v. flats_order ds es h.2 i j (counts n) h.5 (subst (λ z. FlatDerivesFirst plan es z i j) (sym (same n)) k'.5) v) in
+          at_numbers a c _ _ (λ n v. flats_order ds es h.2 i j (counts n) h.5 (subst (λ z. FlatDerivesFirst plan es z i j) (sym (same n)) k'.5) v) in
           subst (λ (z : ℕ). Before (lift plan.rules (flat_node r a ds)) (lift plan.rules (flat_node z c es)) j) (sym e)
           (lifted_order (kind_at plan.rules r) r a c (lift_all plan.rules ds) (lift_all plan.rules es) j (fits r a ds x i j h) (fits r c es x i j k')
-              (λ m. lift_count plan.rules ds ∙ counts m ∙ sym (lift_count plan.rules es)) w
-              (λ n. at_heights _ _ _ _ _ _ hd.0 he.0 rest (from_named (kind_at plan.rules r) _ _ _ n u))
-              (λ n. rest (from_helper (kind_at plan.rules r) _ _ _ n u)))
+          (λ m. lift_count plan.rules ds ∙ counts m ∙ sym (lift_count plan.rules es)) w
+          (λ n. at_heights _ _ _ _ _ _ hd.0 he.0 rest (from_named (kind_at plan.rules r) _ _ _ n u))
+          (λ n. rest (from_helper (kind_at plan.rules r) _ _ _ n u)))
       order_lifts _ _ x i j h k u = absurd u
 
       pub flats_order : (ds es : FlatTrees) (syms : List Sym) (i j : ℕ) → flat_count ds ≡ flat_count es → FlatDerivesFirst plan ds syms i j → FlatDerivesFirst plan es syms i j →

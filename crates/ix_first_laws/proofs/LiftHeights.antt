@@ -1,5 +1,5 @@
 -- A tree over the numbered rules is as high and as wide as the written tree that it stands for.
-use Rattle.std.proofs.Common.{◌≡◌, refl, ap, ◌∙◌, ◌+◌, ℕ, max, List, arith}
+use Rattle.std.proofs.Common.{◌≡◌, refl, ap, ◌∙◌, ℕ, List, arith}
 use Rattle.ix_model.specs.declared.rules.Kind.{Kind}
 use Rattle.ix_model.specs.declared.rules.Kind.TheVariants as kind
 use Rattle.ix_model.specs.declared.rules.Sym.{Sym}

@@ -1,5 +1,5 @@
 -- The order of two written trees of one helper, from that of the trees in them.
-use Rattle.std.proofs.Common.{◌≡◌, refl, ap, ◌⊎◌, ◌+◌, ◌-◌, ◌<◌, ℕ, arith}
+use Rattle.std.proofs.Common.{◌≡◌, refl, ap, ◌⊎◌, ◌-◌, ◌<◌, ℕ, arith}
 use mathlib.Core.Logic.{inl, inr}
 use Rattle.ix_model.specs.declared.rules.Kind.{Kind}
 use Rattle.ix_model.specs.declared.rules.Kind.TheVariants as kind

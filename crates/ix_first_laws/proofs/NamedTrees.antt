@@ -21,6 +21,22 @@ use Rattle.ix_first_laws.proofs.NodeKinds.{raised_named, NodeOrSame, named_or_sa
 use Rattle.ix_first_laws.proofs.Symbols.{FoundTree}
 use Rattle.ix_first_laws.proofs.Alternatives.{Nth, Late, to_chain, from_chain, NoAlt, LeastAlt, by_alt}
 
+-- of the trees of a named rule over one span, a higher one comes after
+module _ (plan : Parts) (r i j : ℕ) (named : kind_at plan.rules r ≡ kind.Named) (m : Option Mark) where
+  pub higher_after : (d e : FlatTree) → FlatDerives plan d (sy.Rule r m) i j → FlatDerives plan e (sy.Rule r m) i j → flat_height plan.rules d < flat_height plan.rules e → (e ≡ d) ⊎ FlatBefore plan.rules d e j
+  higher_after (flat_text x y) e h k l = absurd (cc h.2.3)
+  higher_after flat_insertion e h k l = absurd (cc h.1)
+  higher_after (flat_node q a ds) (flat_text x y) h k l = absurd (cc k.2.3)
+  higher_after (flat_node q a ds) flat_insertion h k l = absurd (cc k.1)
+  higher_after (flat_node q a ds) (flat_node p c es) h k l =
+      let e : q ≡ r = cc h.1 in
+      let f : p ≡ r = cc k.1 in
+      let same : p ≡ q = f ∙ sym e in
+      let kq : kind_at plan.rules q ≡ kind.Named = ap (kind_at plan.rules) e ∙ named in
+      let kp : kind_at plan.rules p ≡ kind.Named = ap (kind_at plan.rules) f ∙ named in
+      subst (λ (z : ℕ). (flat_node z c es ≡ flat_node q a ds) ⊎ FlatBefore plan.rules (flat_node q a ds) (flat_node z c es) j) (sym same)
+      (lower_named plan.rules q a ds j kq c es (omega (arith, l, raised_named (kind_at plan.rules q) (flat_heights plan.rules ds) kq, raised_named (kind_at plan.rules p) (flat_heights plan.rules es) kp)))
+
 module _ (plan : Parts) (nested : IsNested plan.rules) (b r i J : ℕ) (named : kind_at plan.rules r ≡ kind.Named) where
   height_is : (c : ℕ) (es : FlatTrees) → flat_height plan.rules (flat_node r c es) ≡ flat_heights plan.rules es + 1
   height_is c es = raised_named (kind_at plan.rules r) (flat_heights plan.rules es) named
@@ -34,28 +50,14 @@ module _ (plan : Parts) (nested : IsNested plan.rules) (b r i J : ℕ) (named : 
   all_of c syms line es h under = never_late c syms es (to_chain plan nested b r c syms line J es i J (omega arith) h under)
 
   module _ (m : Option Mark) where
-    -- ---- where a tree is within b, the first of them is first within b + 1, as all higher ones come after it
-
-    higher_after : (d e : FlatTree) → FlatDerives plan d (sy.Rule r m) i J → FlatDerives plan e (sy.Rule r m) i J → flat_height plan.rules d < flat_height plan.rules e → (e ≡ d) ⊎ FlatBefore plan.rules d e J
-    higher_after (flat_text x y) e h k l = absurd (cc h.2.3)
-    higher_after flat_insertion e h k l = absurd (cc h.1)
-    higher_after (flat_node q a ds) (flat_text x y) h k l = absurd (cc k.2.3)
-    higher_after (flat_node q a ds) flat_insertion h k l = absurd (cc k.1)
-    higher_after (flat_node q a ds) (flat_node p c es) h k l =
-        let e : q ≡ r = cc h.1 in
-        let f : p ≡ r = cc k.1 in
-        let same : p ≡ q = f ∙ sym e in
-        let kq : kind_at plan.rules q ≡ kind.Named = ap (kind_at plan.rules) e ∙ named in
-        let kp : kind_at plan.rules p ≡ kind.Named = ap (kind_at plan.rules) f ∙ named in
-        subst (λ (z : ℕ). (flat_node z c es ≡ flat_node q a ds) ⊎ FlatBefore plan.rules (flat_node q a ds) (flat_node z c es) J) (sym same)
-        (lower_named plan.rules q a ds J kq c es (omega (arith, l, raised_named (kind_at plan.rules q) (flat_heights plan.rules ds) kq, raised_named (kind_at plan.rules p) (flat_heights plan.rules es) kp)))
+    -- ---- where a tree is within b, the first of them is first within b + 1
 
     lower : (d : FlatTree) → FirstOf FlatTree (TreeWithin plan b (sy.Rule r m) i J) (λ d e. FlatBefore plan.rules d e J) d → FoundTree plan (suc b) (sy.Rule r m) i J
     lower d y = inl (d, record { holds = (y.holds.0, omega (arith, y.holds.1)); before = λ z h. by_height z h (grind arith) })
       where
         by_height : (z : FlatTree) → TreeWithin plan (suc b) (sy.Rule r m) i J z → Answered (flat_height plan.rules z ≤ b) → (z ≡ d) ⊎ FlatBefore plan.rules d z J
         by_height z h (inl k) = y.before z (h.0, k)
-        by_height z h (inr k) = higher_after d z y.holds.0 h.0 (grind (arith, k, y.holds.1))
+        by_height z h (inr k) = higher_after plan r i J named m d z y.holds.0 h.0 (grind (arith, k, y.holds.1))
 
     -- ---- where none is within b, all trees within b + 1 have that height, and the least alternative decides
 

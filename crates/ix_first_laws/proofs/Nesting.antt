@@ -17,7 +17,7 @@ use Rattle.ix_expansion_laws.proofs.Lifting.{kind_is}
 use Rattle.ix_expansion_laws.proofs.Covering.{names_first, only_named, at_all}
 use Rattle.ix_first_laws.specs.Nested.{MayLead, IsNested}
 use Rattle.ix_first_laws.proofs.Lines.{past_rules, past_lines}
-use Rattle.ix_first_laws.proofs.HelperShapes.{From, LinesFrom, SeparatorFrom, HelperShape, of_group, of_option, of_star, of_list, shape_at}
+use Rattle.ix_first_laws.proofs.HelperShapes.{From, SeparatorFrom, HelperShape, of_group, of_option, of_star, of_list, shape_at}
 
 -- the symbols of alternative a of these
 abbrev syms_in : List (List Sym) → ℕ → List Sym

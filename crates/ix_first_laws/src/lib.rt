@@ -1,2 +1,4 @@
 //! Laws of least heights and of the first derivation over the numbered rules.
 #![tactic(auto)]
+
+pub mod laws;
