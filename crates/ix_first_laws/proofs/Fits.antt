@@ -74,6 +74,9 @@ list_of_three : (ts : Trees) (c e d : Tree) → ts ≡ and (and (and no_tree c) 
 list_of_three ts c e d h = ap list_of h
 
 -- what fits with a list in the place of the first tree
+star_of : (ts : Trees) (c : Tree) (rs : Repeated) → ts ≡ and no_tree c → c ≡ list rs → StarFits 1 ts
+star_of ts c rs h k = subst (λ z. StarFits 1 z) (sym (h ∙ ap (λ z. and no_tree z) k)) (items rs)
+
 next_fits : (ts : Trees) (c d : Tree) (rs : Repeated) → ts ≡ and (and no_tree c) d → c ≡ list rs → ListFits 1 ts
 next_fits ts c d rs h k = subst (λ z. ListFits 1 z) (sym (h ∙ ap (λ z. and (and no_tree z) d) k)) (next_item rs d)
 
@@ -153,7 +156,7 @@ module _ (g : Grammar) (plan : Parts) (e : Expanded g plan.rules) where
       let k : syms ≡ sy.Rule p None ∷ [] = cc q in
       let v = one_child plan Whatever ds (whatever ds) (sy.Rule p None) i j (n ∙ ap length k) (subst (λ zs. FlatDerivesFirst plan ds zs i j) k h) in
       let w = list_lifts p v.0 i j l v.3 in
-      subst (StarFits 1) (sym (one_lifts plan.rules ds v.0 v.1 ∙ ap (and no_tree) w.1)) (items w.0)
+      star_of (lift_all plan.rules ds) (lift plan.rules v.0) w.0 (one_lifts plan.rules ds v.0 v.1) w.1
   star_fits (suc (suc a)) ds p syms i j l q n h = absurd (cc q)
 
   list_fits : (r a : ℕ) (ds : FlatTrees) (x : Sym) (s : Option Sym) (syms : List Sym) (i j : ℕ) → kind_at plan.rules r ≡ kind.List → slice_get ((x ∷ []) ∷ next_syms r x s ∷ []) a ≡ Some syms → flat_count ds ≡ length syms → FlatDerivesFirst plan ds syms i j →
