@@ -85,10 +85,10 @@ after_fits ts c e d rs h k = subst (λ z. ListFits 1 z) (sym (h ∙ ap (λ z. an
 
 -- ---- under the numbered rules of a grammar
 
-abbrev Whatever : FlatTree → Type 0
+abbrev pub Whatever : FlatTree → Type 0
 Whatever d = Unit {0}
 
-whatever : (ds : FlatTrees) → AllOf Whatever ds
+pub whatever : (ds : FlatTrees) → AllOf Whatever ds
 whatever no_flat = tt
 whatever (flats_and ds d) = (whatever ds, tt)
 

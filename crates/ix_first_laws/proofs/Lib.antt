@@ -1,6 +1,7 @@
 pub mod Alternatives
 pub mod Chains
 pub mod Composing
+pub mod CycleTrees
 pub mod FirstLifts
 pub mod FirstTrees
 pub mod Fits
@@ -8,6 +9,7 @@ pub mod FlatAsym
 pub mod FlatFirsts
 pub mod FlatFound
 pub mod FlatFoundAll
+pub mod HalfTrees
 pub mod HelperShapes
 pub mod HelperTrees
 pub mod LiftFirst
@@ -17,6 +19,7 @@ pub mod Lines
 pub mod NamedTrees
 pub mod NestedAnswered
 pub mod Nesting
+pub mod NoNesting
 pub mod NodeKinds
 pub mod SameFlat
 pub mod Symbols

@@ -2,3 +2,4 @@ pub mod Bounded
 pub mod Laws
 pub mod Least
 pub mod Nested
+pub mod SmallLists
