@@ -1,11 +1,10 @@
 -- The trees of S: S; "a". on the text `a`.
-use Rattle.std.proofs.Common.{◌≡◌, refl, sym, ap, subst, ◌∙◌, ◌⊎◌, ◌+◌, ◌<◌, ◌≤◌, ℕ, zero, suc, max, List, [], ◌∷◌, length, None, codes, arith, true}
+use Rattle.std.proofs.Common.{◌≡◌, refl, sym, ap, subst, ◌∙◌, ◌⊎◌, ◌+◌, ◌<◌, ◌≤◌, ℕ, zero, suc, List, [], ◌∷◌, length, None, codes, arith, true}
 use mathlib.Core.Logic.{inl, inr}
 use Rattle.ix_model.specs.declared.rules.Sym.{Sym}
-use Rattle.ix_model.specs.declared.rules.Sym.TheVariants as sy
 use Rattle.ix_model.specs.Expansion.Parts.{Parts}
-use Rattle.ix_model.specs.Expansion.Numbered.{syms_at, lines_at}
-use Rattle.ix_model.specs.Expansion.FlatTrees.{FlatTree, flat_text, flat_insertion, flat_node, FlatTrees, no_flat, flats_and, flat_count}
+use Rattle.ix_model.specs.Expansion.Numbered.{syms_at}
+use Rattle.ix_model.specs.Expansion.FlatTrees.{FlatTree, flat_text, flat_insertion, flat_node, FlatTrees, flat_count}
 use Rattle.ix_model.specs.Expansion.FlatDerives.{FlatDerives, FlatDerivesFirst, IsLine}
 use Rattle.ix_model.specs.Expansion.FlatHeights.{flat_height, flat_heights}
 use Rattle.ix_model.specs.Expansion.FlatOrder.{FlatBefore}

@@ -1,10 +1,9 @@
 -- The trees of S: A, A. A: "a"; . on the text `a`.
-use Rattle.std.proofs.Common.{◌≡◌, refl, sym, ap, subst, ◌∙◌, ◌⊎◌, ◌+◌, ◌<◌, ◌≤◌, ℕ, zero, suc, max, List, [], ◌∷◌, length, None, Some, slice_get, codes, arith, true}
+use Rattle.std.proofs.Common.{◌≡◌, refl, sym, ap, subst, ◌∙◌, ◌<◌, ◌≤◌, ℕ, zero, suc, List, [], ◌∷◌, length, None, codes, arith, true}
 use mathlib.Core.Logic.{inl, inr}
 use Rattle.ix_model.specs.declared.rules.Sym.{Sym}
-use Rattle.ix_model.specs.declared.rules.Sym.TheVariants as sy
 use Rattle.ix_model.specs.Expansion.Parts.{Parts}
-use Rattle.ix_model.specs.Expansion.Numbered.{syms_at, lines_at}
+use Rattle.ix_model.specs.Expansion.Numbered.{syms_at}
 use Rattle.ix_model.specs.Expansion.FlatTrees.{FlatTree, flat_text, flat_insertion, flat_node, FlatTrees, no_flat, flats_and, flat_count}
 use Rattle.ix_model.specs.Expansion.FlatDerives.{FlatDerives, FlatDerivesFirst, IsLine}
 use Rattle.ix_model.specs.Expansion.FlatHeights.{flat_height, flat_heights}
@@ -12,7 +11,7 @@ use Rattle.ix_model.specs.Expansion.FlatOrder.{FlatBefore, FlatsBefore, FlatFirs
 use Rattle.ix_examples.specs.SmallPlans.{alone, call, in_first, in_second, literal, pair, two_halves}
 use Rattle.ix_examples.proofs.SmallPlans.{literal_stands, literal_derived}
 use Rattle.ix_expansion_laws.proofs.Children.{one_child}
-use Rattle.ix_first_laws.specs.Bounded.{TreeWithin, TreesWithin, IsBestTree, IsBestTrees}
+use Rattle.ix_first_laws.specs.Bounded.{TreesWithin, IsBestTree, IsBestTrees}
 use Rattle.ix_first_laws.proofs.Composing.{nothing_yet, longer, named_node}
 use Rattle.ix_first_laws.proofs.CycleTrees.{literal_is_text}
 use Rattle.ix_first_laws.proofs.Fits.{Whatever, whatever}

@@ -1,8 +1,7 @@
 -- Rules that are not nested: one symbol leads where it may not.
-use Rattle.std.proofs.Common.{◌≡◌, ◌⊎◌, ◌<◌, ℕ, slice_get, Option, Some}
+use Rattle.std.proofs.Common.{◌≡◌, ◌<◌, ℕ, slice_get, Option, Some}
 use mathlib.Core.Logic.{inl, inr}
 use Rattle.ix_model.specs.declared.grammar.Mark.{Mark}
-use Rattle.ix_model.specs.declared.rules.Kind.TheVariants as kind
 use Rattle.ix_model.specs.declared.rules.Sym.TheVariants as sy
 use Rattle.ix_model.specs.declared.rules.Rules.{Rules}
 use Rattle.ix_model.specs.Expansion.Numbered.{kind_at, syms_at}

@@ -1,4 +1,4 @@
-use Rattle.std.proofs.Common.{◌<◌, ◌≤◌, ℕ, zero, suc, arith}
+use Rattle.std.proofs.Common.{◌<◌, ℕ, zero, suc, arith}
 use Rattle.ix_model.specs.Expansion.FlatTrees.{FlatTrees, flat_text}
 use Rattle.ix_examples.specs.SmallPlans.{a_by, alone}
 use Rattle.ix_first_laws.specs.Least.{AltWithin}

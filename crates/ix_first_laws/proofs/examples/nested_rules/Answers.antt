@@ -1,4 +1,4 @@
-use Rattle.std.proofs.Common.{refl, [], ◌∷◌, None, arith}
+use Rattle.std.proofs.Common.{refl, None, arith}
 use Rattle.ix_examples.specs.SmallRules.{helper}
 use Rattle.ix_first_laws.specs.SmallLists.{backward, group_with}
 use Rattle.ix_first_laws.proofs.NoNesting.{not_nested}

@@ -1,6 +1,6 @@
-use Rattle.std.proofs.Common.{◌≡◌, ◌⊎◌, refl, None, arith}
+use Rattle.std.proofs.Common.{◌≡◌, ◌⊎◌, None, arith}
 use mathlib.Core.Logic.{inl, inr}
-use Rattle.ix_model.specs.Expansion.FlatTrees.{flat_node, no_flat}
+use Rattle.ix_model.specs.Expansion.FlatTrees.{flat_node}
 use Rattle.ix_model.specs.Expansion.FlatHeights.{flat_height}
 use Rattle.ix_model.specs.Expansion.FlatOrder.{FlatBefore, FlatsBefore}
 use Rattle.ix_examples.specs.SmallPlans.{a_by, alone, pair}
