@@ -1,6 +1,5 @@
 -- The first trees of the alternatives of a rule over a span. A list within itself is looked for over shorter spans alone.
 use Rattle.std.proofs.Common.{◌≡◌, refl, sym, ap, subst, ◌∙◌, ◌⊎◌, ◌+◌, ◌<◌, ◌≤◌, ℕ, List, length, arith, slice_get, Some, None, Option}
-use Rattle.std.proofs.lemmas.Bool.{cases_order}
 use mathlib.Core.Logic.{inl, inr}
 use Rattle.ix_model.specs.declared.grammar.Mark.{Mark}
 use Rattle.ix_model.specs.declared.rules.Kind.TheVariants as kind
@@ -15,11 +14,11 @@ use Rattle.ix_model.specs.Expansion.FlatOrder.{FlatsBefore}
 use Rattle.ix_model.proofs.Decide.{Answered, Least, least}
 use Rattle.ix_model.proofs.SlotPlaces.{same_line}
 use Rattle.ix_closure_laws.proofs.FlatWidths.{width_is}
-use Rattle.ix_tree_laws.proofs.Found.{FirstOf, Found, InSomeOrder}
+use Rattle.ix_tree_laws.proofs.Found.{FirstOf, Found}
 use Rattle.ix_first_laws.specs.Nested.{MayLead, IsNested}
 use Rattle.ix_first_laws.proofs.Chains.{Chain, ChainOf, FoundChain, FoundNth, found_chain, first_end}
 use Rattle.ix_first_laws.proofs.Lines.{line_at, leads}
-use Rattle.ix_first_laws.proofs.NodeKinds.{is_list}
+use Rattle.ix_first_laws.proofs.NodeKinds.{is_list, AltBefore, first_or_same}
 use Rattle.ix_first_laws.proofs.Symbols.{FoundTree}
 
 -- a node of a tree: an alternative, and trees for its symbols
@@ -151,14 +150,5 @@ module _ (plan : Parts) where
     least_alt each = least (λ a. (ds : FlatTrees) × FirstAlt a ds) NoAlt (length (lines_at plan.rules r)) (λ a h. alt_at a (each a) (line_at plan r a))
 
     -- it is before the trees of each alternative, or the same
-    pub by_alt : (a c : ℕ) (ds es : FlatTrees) → FirstAlt a ds → ((m : ℕ) → m < a → NoAlt m) → AltOf c es → ((a ≡ c) × (es ≡ ds)) ⊎ ((a < c) ⊎ (a ≡ c) × FlatsBefore plan.rules ds es J)
-    by_alt a c ds es x less h = by_number (cases_order a c)
-      where
-        same : a ≡ c → (es ≡ ds) ⊎ FlatsBefore plan.rules ds es J → ((a ≡ c) × (es ≡ ds)) ⊎ ((a < c) ⊎ (a ≡ c) × FlatsBefore plan.rules ds es J)
-        same e (inl p) = inl (e, p)
-        same e (inr p) = inr (inr (e, p))
-
-        by_number : InSomeOrder a c → ((a ≡ c) × (es ≡ ds)) ⊎ ((a < c) ⊎ (a ≡ c) × FlatsBefore plan.rules ds es J)
-        by_number (inl k) = same k (x.before es (subst (λ (z : ℕ). AltOf z es) (sym k) h))
-        by_number (inr (inl k)) = inr (inl k)
-        by_number (inr (inr k)) = absurd (less c k es h)
+    pub by_alt : (a c : ℕ) (ds es : FlatTrees) → FirstAlt a ds → ((m : ℕ) → m < a → NoAlt m) → AltOf c es → ((a ≡ c) × (es ≡ ds)) ⊎ AltBefore plan.rules r a ds J c es
+    by_alt a c ds es x less h = first_or_same plan.rules r a ds J c es (λ k. less c k es h) (λ k. x.before es (subst (λ (z : ℕ). AltOf z es) (sym k) h))

@@ -1,6 +1,5 @@
 -- The first tree from its choices: first trees of a sequence by the least start of the last one, a node by its least alternative.
-use Rattle.std.proofs.Common.{◌≡◌, refl, sym, ap, subst, ◌∙◌, ◌⊎◌, ◌<◌, ◌≤◌, ℕ, suc, List, length, arith, slice_get, Some, Option}
-use Rattle.std.proofs.lemmas.Bool.{cases_order}
+use Rattle.std.proofs.Common.{◌≡◌, refl, sym, subst, ◌⊎◌, ◌<◌, ◌≤◌, ℕ, suc, List, length, arith, slice_get, Some, Option}
 use mathlib.Core.Logic.{inl, inr}
 use Rattle.ix_model.specs.declared.grammar.Mark.{Mark}
 use Rattle.ix_model.specs.declared.rules.Kind.TheVariants as kind
@@ -8,18 +7,18 @@ use Rattle.ix_model.specs.declared.rules.Sym.{Sym}
 use Rattle.ix_model.specs.declared.rules.Sym.TheVariants as sy
 use Rattle.ix_model.specs.Expansion.Parts.{Parts}
 use Rattle.ix_model.specs.Expansion.Numbered.{kind_at, lines_at, syms_at}
-use Rattle.ix_model.specs.Expansion.FlatTrees.{FlatTree, flat_text, flat_insertion, flat_node, FlatTrees, no_flat, flats_and, flat_count}
-use Rattle.ix_model.specs.Expansion.FlatDerives.{FlatDerives, FlatDerivesFirst, IsLine}
+use Rattle.ix_model.specs.Expansion.FlatTrees.{FlatTree, flat_node, FlatTrees, no_flat, flats_and, flat_count}
+use Rattle.ix_model.specs.Expansion.FlatDerives.{FlatDerives, FlatDerivesFirst}
 use Rattle.ix_model.specs.Expansion.FlatHeights.{flat_height, flat_heights}
 use Rattle.ix_model.specs.Expansion.FlatOrder.{FlatBefore, FlatsBefore}
 use Rattle.ix_model.proofs.Decide.{Answered}
 use Rattle.ix_closure_laws.proofs.FlatWidths.{width_is}
-use Rattle.ix_tree_laws.proofs.Found.{InSomeOrder}
 use Rattle.ix_first_laws.specs.Bounded.{TreeWithin, TreesWithin, IsBestTree, IsBestTrees}
 use Rattle.ix_first_laws.specs.Least.{AltWithin}
 use Rattle.ix_first_laws.proofs.Chains.{pair_first}
 use Rattle.ix_first_laws.proofs.Lines.{line_syms, line_is}
-use Rattle.ix_first_laws.proofs.NodeKinds.{Helper, raised_helper, raised_named, AltBefore, NodeOrSame, helper_or_same, named_or_same, lower_named}
+use Rattle.ix_first_laws.proofs.Nodes.{IsNode, node_derives, by_node}
+use Rattle.ix_first_laws.proofs.NodeKinds.{Helper, raised_helper, raised_named, AltBefore, first_or_same, NodeOrSame, helper_or_same, named_or_same, lower_named}
 
 module _ (plan : Parts) (b : ℕ) where
   -- ---- sequences
@@ -56,56 +55,39 @@ module _ (plan : Parts) (b : ℕ) where
 
   module _ (r i j a : ℕ) (ds : FlatTrees) (inside : a < length (lines_at plan.rules r)) (first : IsBestTrees plan b (syms_at plan.rules r a) (length (syms_at plan.rules r a)) i j ds)
       (early : (c : ℕ) (es : FlatTrees) → c < a → AltWithin plan b r i j c es → ⊥) (m : Option Mark) where
-    by_line : (c : ℕ) (es : FlatTrees) (syms : List Sym) → IsLine plan r c syms → flat_count es ≡ length syms → FlatDerivesFirst plan es syms i j → flat_heights plan.rules es ≤ b →
-        ((a ≡ c) × (es ≡ ds)) ⊎ AltBefore plan.rules r a ds j c es
-    by_line c es syms l count h high = by_number (cases_order a c)
+    by_line : (c : ℕ) (es : FlatTrees) → IsNode plan r i j c es → flat_heights plan.rules es ≤ b → ((a ≡ c) × (es ≡ ds)) ⊎ AltBefore plan.rules r a ds j c es
+    by_line c es n high = first_or_same plan.rules r a ds j c es (λ k. early c es k at) (λ k. first.before es (subst (λ (z : ℕ). AltWithin plan b r i j z es) (sym k) at))
       where
         at : AltWithin plan b r i j c es
-        at = subst (λ z. TreesWithin plan b z (length z) i j es) (sym (line_syms plan r c syms l)) (h, count, high)
+        at = subst (λ z. TreesWithin plan b z (length z) i j es) (sym (line_syms plan r c n.syms n.line)) (n.trees, n.count, high)
 
-        same : a ≡ c → (es ≡ ds) ⊎ FlatsBefore plan.rules ds es j → ((a ≡ c) × (es ≡ ds)) ⊎ AltBefore plan.rules r a ds j c es
-        same e (inl p) = inl (e, p)
-        same e (inr p) = inr (inr (e, p))
+    mine : IsNode plan r i j a ds
+    mine = record { syms = syms_at plan.rules r a; line = line_is plan r a inside; count = first.within.1; trees = first.within.0 }
 
-        by_number : InSomeOrder a c → ((a ≡ c) × (es ≡ ds)) ⊎ AltBefore plan.rules r a ds j c es
-        by_number (inl k) = same k (first.before es (subst (λ (z : ℕ). AltWithin plan b r i j z es) (sym k) at))
-        by_number (inr (inl k)) = inr (inl k)
-        by_number (inr (inr k)) = absurd (early c es k at)
-
-    derived : FlatDerives plan (flat_node r a ds) (sy.Rule r m) i j
-    derived = (m, refl, syms_at plan.rules r a, line_is plan r a inside, first.within.1, first.within.0)
+    -- where no node is before it, it is the first tree within the bound
+    node_is_best : (high : ℕ) → flat_height plan.rules (flat_node r a ds) ≤ high → ((c : ℕ) (es : FlatTrees) → IsNode plan r i j c es → flat_height plan.rules (flat_node r c es) ≤ high → NodeOrSame plan.rules r a ds j c es) →
+        IsBestTree plan high (sy.Rule r m) i j (flat_node r a ds)
+    node_is_best high under others = record {
+      within = (node_derives plan r i j m a ds mine, under);
+      before = λ z h. by_node plan r i j (λ y. flat_height plan.rules y ≤ high → (y ≡ flat_node r a ds) ⊎ FlatBefore plan.rules (flat_node r a ds) y j) others z m h.0 h.1;
+    }
 
     -- a helper is no higher than its trees
     pub helper_node : Helper (kind_at plan.rules r) → IsBestTree plan b (sy.Rule r m) i j (flat_node r a ds)
-    helper_node helper = record { within = (derived, omega (arith, first.within.2, raised_helper (kind_at plan.rules r) (flat_heights plan.rules ds) helper)); before = others }
-      where
-        others : (z : FlatTree) → TreeWithin plan b (sy.Rule r m) i j z → (z ≡ flat_node r a ds) ⊎ FlatBefore plan.rules (flat_node r a ds) z j
-        others (flat_text x y) h = absurd (cc h.0.2.3)
-        others flat_insertion h = absurd (cc h.0.1)
-        others (flat_node q c es) ((m', is, syms, l, count, h), high) =
-            let e : q ≡ r = cc is in
-            let under : flat_heights plan.rules es ≤ b = omega (arith, high, raised_helper (kind_at plan.rules q) (flat_heights plan.rules es) (λ k. helper (sym (ap (kind_at plan.rules) e) ∙ k))) in
-            subst (λ (z : ℕ). (flat_node z c es ≡ flat_node r a ds) ⊎ FlatBefore plan.rules (flat_node r a ds) (flat_node z c es) j) (sym e)
-            (helper_or_same plan.rules r a ds j helper c es (by_line c es syms (subst (λ (z : ℕ). IsLine plan z c syms) e l) count h under))
+    helper_node helper =
+        node_is_best b (omega (arith, first.within.2, raised_helper (kind_at plan.rules r) (flat_heights plan.rules ds) helper))
+        (λ c es n high. helper_or_same plan.rules r a ds j helper c es (by_line c es n (omega (arith, high, raised_helper (kind_at plan.rules r) (flat_heights plan.rules es) helper))))
 
     -- a named rule under every greater bound, where all its trees over the span have b below at least
     pub named_node : (high : ℕ) → b < high → kind_at plan.rules r ≡ kind.Named → ((c : ℕ) (es : FlatTrees) → FlatDerives plan (flat_node r c es) (sy.Rule r m) i j → b ≤ flat_heights plan.rules es) →
         IsBestTree plan high (sy.Rule r m) i j (flat_node r a ds)
-    named_node high over named least = record { within = (derived, omega (arith, over, first.within.2, raised_named (kind_at plan.rules r) (flat_heights plan.rules ds) named)); before = others }
+    named_node high over named least =
+        node_is_best high (omega (arith, over, first.within.2, raised_named (kind_at plan.rules r) (flat_heights plan.rules ds) named))
+        (λ c es n _. by_height c es n (least c es (node_derives plan r i j m c es n)) (grind arith))
       where
         full : flat_heights plan.rules ds ≡ b
-        full = omega (arith, first.within.2, least a ds derived)
+        full = omega (arith, first.within.2, least a ds (node_derives plan r i j m a ds mine))
 
-        by_height : (c : ℕ) (es : FlatTrees) (syms : List Sym) → IsLine plan r c syms → flat_count es ≡ length syms → FlatDerivesFirst plan es syms i j → b ≤ flat_heights plan.rules es →
-            Answered (flat_heights plan.rules es ≤ b) → NodeOrSame plan.rules r a ds j c es
-        by_height c es syms l count h more (inl k) = named_or_same plan.rules r a ds j named c es (omega (arith, full, more, k)) (by_line c es syms l count h k)
-        by_height c es syms l count h more (inr k) = lower_named plan.rules r a ds j named c es (grind (arith, full, more, k))
-
-        others : (z : FlatTree) → TreeWithin plan high (sy.Rule r m) i j z → (z ≡ flat_node r a ds) ⊎ FlatBefore plan.rules (flat_node r a ds) z j
-        others (flat_text x y) h = absurd (cc h.0.2.3)
-        others flat_insertion h = absurd (cc h.0.1)
-        others (flat_node q c es) ((m', is, syms, l', count, h), _) =
-            let e : q ≡ r = cc is in
-            let l : IsLine plan r c syms = subst (λ (z : ℕ). IsLine plan z c syms) e l' in
-            subst (λ (z : ℕ). (flat_node z c es ≡ flat_node r a ds) ⊎ FlatBefore plan.rules (flat_node r a ds) (flat_node z c es) j) (sym e)
-            (by_height c es syms l count h (least c es (m, refl, syms, l, count, h)) (grind arith))
+        by_height : (c : ℕ) (es : FlatTrees) → IsNode plan r i j c es → b ≤ flat_heights plan.rules es → Answered (flat_heights plan.rules es ≤ b) → NodeOrSame plan.rules r a ds j c es
+        by_height c es n more (inl k) = named_or_same plan.rules r a ds j named c es (omega (arith, full, more, k)) (by_line c es n k)
+        by_height c es n more (inr k) = lower_named plan.rules r a ds j named c es (grind (arith, full, more, k))

@@ -5,7 +5,7 @@ use Rattle.ix_model.specs.declared.rules.Sym.{Sym}
 use Rattle.ix_model.specs.Expansion.Parts.{Parts}
 use Rattle.ix_model.specs.Expansion.Numbered.{syms_at}
 use Rattle.ix_model.specs.Expansion.FlatTrees.{FlatTree, flat_text, flat_insertion, flat_node, FlatTrees, flat_count}
-use Rattle.ix_model.specs.Expansion.FlatDerives.{FlatDerives, FlatDerivesFirst, IsLine}
+use Rattle.ix_model.specs.Expansion.FlatDerives.{FlatDerives, FlatDerivesFirst}
 use Rattle.ix_model.specs.Expansion.FlatHeights.{flat_height, flat_heights}
 use Rattle.ix_model.specs.Expansion.FlatOrder.{FlatBefore}
 use Rattle.ix_examples.specs.SmallPlans.{a_by, alone, call, cycle, literal}
@@ -14,6 +14,8 @@ use Rattle.ix_expansion_laws.proofs.Children.{one_child}
 use Rattle.ix_first_laws.specs.Bounded.{TreesWithin, IsBestTree}
 use Rattle.ix_first_laws.proofs.Fits.{Whatever, whatever}
 use Rattle.ix_first_laws.proofs.Lines.{line_syms, line_within}
+use Rattle.ix_first_laws.proofs.NamedTrees.{named_height}
+use Rattle.ix_first_laws.proofs.Nodes.{by_node}
 
 -- a literal's tree is its text
 pub literal_is_text : (plan : Parts) (d : FlatTree) (n i j : ℕ) → FlatDerives plan d (literal n) i j → d ≡ flat_text i j
@@ -43,19 +45,11 @@ by_alt (suc zero) ds syms i j e l n h =
 by_alt (suc (suc a)) ds syms i j e l n h = absurd (omega (arith, l))
 
 pub cycle_tree : (d : FlatTree) (i j : ℕ) → FlatDerives a_cycle d (call 0) i j → CycleTree d i j
-cycle_tree (flat_text a b) i j h = absurd (cc h.2.3)
-cycle_tree flat_insertion i j h = absurd (cc h.1)
-cycle_tree (flat_node r a ds) i j (m, is, syms, line, count, h) =
-    let e : r ≡ 0 = cc is in
-    let l : IsLine a_cycle 0 a syms = subst (λ (z : ℕ). IsLine a_cycle z a syms) e line in
-    subst (λ (z : ℕ). CycleTree (flat_node z a ds) i j) (sym e) (by_alt a ds syms i j (line_syms a_cycle 0 a syms l) (line_within a_cycle 0 a syms l) count h)
-
-height_by : (d : FlatTree) (i j : ℕ) → CycleTree d i j → 1 ≤ flat_height a_cycle.rules d
-height_by d i j by_literal = omega arith
-height_by d i j (by_cycle e _ _ h) = omega arith
+cycle_tree d i j h =
+    by_node a_cycle 0 i j (λ z. CycleTree z i j) (λ a ds n. by_alt a ds n.syms i j (line_syms a_cycle 0 a n.syms n.line) (line_within a_cycle 0 a n.syms n.line) n.count n.trees) d None h
 
 pub cycle_height : (d : FlatTree) (i j : ℕ) → FlatDerives a_cycle d (call 0) i j → 1 ≤ flat_height a_cycle.rules d
-cycle_height d i j h = height_by d i j (cycle_tree d i j h)
+cycle_height d i j h = named_height a_cycle 0 i j refl None d h
 
 -- each tree up to this height has the whole text
 pub cycle_span : (n : ℕ) (d : FlatTree) (i j : ℕ) → flat_height a_cycle.rules d ≤ n → FlatDerives a_cycle d (call 0) i j → j ≡ 1

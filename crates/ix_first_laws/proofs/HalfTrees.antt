@@ -4,8 +4,8 @@ use mathlib.Core.Logic.{inl, inr}
 use Rattle.ix_model.specs.declared.rules.Sym.{Sym}
 use Rattle.ix_model.specs.Expansion.Parts.{Parts}
 use Rattle.ix_model.specs.Expansion.Numbered.{syms_at}
-use Rattle.ix_model.specs.Expansion.FlatTrees.{FlatTree, flat_text, flat_insertion, flat_node, FlatTrees, no_flat, flats_and, flat_count}
-use Rattle.ix_model.specs.Expansion.FlatDerives.{FlatDerives, FlatDerivesFirst, IsLine}
+use Rattle.ix_model.specs.Expansion.FlatTrees.{FlatTree, flat_text, flat_node, FlatTrees, no_flat, flats_and, flat_count}
+use Rattle.ix_model.specs.Expansion.FlatDerives.{FlatDerives, FlatDerivesFirst}
 use Rattle.ix_model.specs.Expansion.FlatHeights.{flat_height, flat_heights}
 use Rattle.ix_model.specs.Expansion.FlatOrder.{FlatBefore, FlatsBefore, FlatFirst}
 use Rattle.ix_examples.specs.SmallPlans.{alone, call, in_first, in_second, literal, pair, two_halves}
@@ -17,6 +17,8 @@ use Rattle.ix_first_laws.proofs.CycleTrees.{literal_is_text}
 use Rattle.ix_first_laws.proofs.Fits.{Whatever, whatever}
 use Rattle.ix_first_laws.proofs.FlatFirsts.{best_is_first}
 use Rattle.ix_first_laws.proofs.Lines.{line_syms, line_within}
+use Rattle.ix_first_laws.proofs.NamedTrees.{named_height}
+use Rattle.ix_first_laws.proofs.Nodes.{by_node}
 
 abbrev pub halves : Parts
 halves = two_halves (codes "a")
@@ -52,19 +54,11 @@ by_alt (suc zero) ds syms i j e l n h = empty_case ds i j (n ∙ sym (ap (λ (xs
 by_alt (suc (suc a)) ds syms i j e l n h = absurd (omega (arith, l))
 
 pub half_tree : (d : FlatTree) (i j : ℕ) → FlatDerives halves d (call 1) i j → HalfTree d i j
-half_tree (flat_text a b) i j h = absurd (cc h.2.3)
-half_tree flat_insertion i j h = absurd (cc h.1)
-half_tree (flat_node r a ds) i j (m, is, syms, line, count, h) =
-    let e : r ≡ 1 = cc is in
-    let l : IsLine halves 1 a syms = subst (λ (z : ℕ). IsLine halves z a syms) e line in
-    subst (λ (z : ℕ). HalfTree (flat_node z a ds) i j) (sym e) (by_alt a ds syms i j (line_syms halves 1 a syms l) (line_within halves 1 a syms l) count h)
-
-height_by : (d : FlatTree) (i j : ℕ) → HalfTree d i j → 1 ≤ flat_height halves.rules d
-height_by d i j is_full = omega arith
-height_by d i j (is_empty _) = omega arith
+half_tree d i j h =
+    by_node halves 1 i j (λ z. HalfTree z i j) (λ a ds n. by_alt a ds n.syms i j (line_syms halves 1 a n.syms n.line) (line_within halves 1 a n.syms n.line) n.count n.trees) d None h
 
 pub half_height : (d : FlatTree) (i j : ℕ) → FlatDerives halves d (call 1) i j → 1 ≤ flat_height halves.rules d
-half_height d i j h = height_by d i j (half_tree d i j h)
+half_height d i j h = named_height halves 1 i j refl None d h
 
 -- ---- the first trees
 

@@ -14,12 +14,12 @@ use Rattle.ix_model.specs.Expansion.FlatOrder.{FlatBefore}
 use Rattle.ix_model.proofs.SlotPlaces.{same_line}
 use Rattle.ix_closure_laws.proofs.FlatWidths.{width_is, widths_are}
 use Rattle.ix_tree_laws.proofs.Found.{InSomeOrder}
-use Rattle.ix_first_laws.specs.Bounded.{TreeWithin}
 use Rattle.ix_first_laws.specs.Nested.{IsNested}
 use Rattle.ix_first_laws.proofs.Chains.{Chain, first_end, shorter_first}
 use Rattle.ix_first_laws.proofs.Lines.{line_within, one_of_two}
 use Rattle.ix_first_laws.proofs.NodeKinds.{Helper, raised_helper, AltBefore, NodeOrSame, helper_or_same}
 use Rattle.ix_first_laws.proofs.Symbols.{FoundTree}
+use Rattle.ix_first_laws.proofs.Nodes.{IsNode, node_derives, by_node}
 use Rattle.ix_first_laws.proofs.Alternatives.{Self, Nth, Late, to_chain, from_chain, ends_before, NoAlt, LeastAlt, by_alt}
 
 module _ (plan : Parts) (nested : IsNested plan.rules) (b r i J : ℕ) (helper : Helper (kind_at plan.rules r)) where
@@ -67,39 +67,38 @@ module _ (plan : Parts) (nested : IsNested plan.rules) (b r i J : ℕ) (helper :
       where
         all : (a : ℕ) → NoAlt plan b r i J a
         all a ds h = none a (line_within plan r a h.syms h.line) ds h
-    helper_found (inl (a, _, (ds, x), less)) = inl (flat_node r a ds, record { holds = mine; before = others })
+    helper_found (inl (a, _, (ds, x), less)) =
+        inl (
+          flat_node r a ds,
+          record {
+            holds = (node_derives plan r i J m a ds mine, omega (arith, first.1, raised_helper (kind_at plan.rules r) (flat_heights plan.rules ds) helper));
+            before = λ z h. by_node plan r i J (λ y. flat_height plan.rules y ≤ b → (y ≡ flat_node r a ds) ⊎ FlatBefore plan.rules (flat_node r a ds) y J) others z m h.0 h.1;
+          },
+        )
       where
         first : FlatDerivesFirst plan ds x.holds.syms i J × (flat_heights plan.rules ds ≤ b)
         first = from_chain plan b r x.holds.syms J ds i J x.holds.all
 
-        mine : TreeWithin plan b (sy.Rule r m) i J (flat_node r a ds)
-        mine = ((m, refl, x.holds.syms, x.holds.line, x.holds.count, first.0), omega (arith, first.1, raised_helper (kind_at plan.rules r) (flat_heights plan.rules ds) helper))
+        mine : IsNode plan r i J a ds
+        mine = record { syms = x.holds.syms; line = x.holds.line; count = x.holds.count; trees = first.0 }
 
         -- it is before a tree that is late, since its own first tree is shorter
-        later : (c : ℕ) (syms : List Sym) → IsLine plan r c syms → (es : FlatTrees) → flat_count es ≡ length syms → FlatDerivesFirst plan es syms i J → Late plan b r syms J c es i → AltBefore plan.rules r a ds J c es
-        later c syms line es count h l = by_number (cases_order a c)
+        later : (c : ℕ) (es : FlatTrees) (n : IsNode plan r i J c es) → Late plan b r n.syms J c es i → AltBefore plan.rules r a ds J c es
+        later c es n l = by_number (cases_order a c)
           where
             by_number : InSomeOrder a c → AltBefore plan.rules r a ds J c es
             by_number (inr (inl k)) = inl k
-            by_number (inr (inr k)) = absurd (omega (arith, k, l.0, one_of_two plan nested r a x.holds.syms l.1 x.holds.line))
+            by_number (inr (inr k)) = absurd (omega (arith, k, l.0, one_of_two plan nested r a mine.syms l.1 mine.line))
             by_number (inl k) =
-                let same : x.holds.syms ≡ syms = same_line plan r a x.holds.syms syms x.holds.line (subst (λ (z : ℕ). IsLine plan r z syms) (sym k) line) in
-                let at : slice_get x.holds.syms 0 ≡ Some l.2.0 = subst (λ z. slice_get z 0 ≡ Some l.2.0) (sym same) l.2.1 in
-                let n : 0 < flat_count ds = omega (arith, x.holds.count, some_length x.holds.syms l.2.0 at) in
-                let e : flat_count ds ≡ flat_count es = omega (arith, x.holds.count, count, ap length same) in
-                inr (k, shorter_first plan.rules ds es i J e (widths_are plan ds x.holds.syms i J first.0) (widths_are plan es syms i J h) (ends_before plan b r x.holds.syms J ds i J l.2.0 at l.2.2 x.holds.all n) l.3)
+                let same : mine.syms ≡ n.syms = same_line plan r a mine.syms n.syms mine.line (subst (λ (z : ℕ). IsLine plan r z n.syms) (sym k) n.line) in
+                let at : slice_get mine.syms 0 ≡ Some l.2.0 = subst (λ z. slice_get z 0 ≡ Some l.2.0) (sym same) l.2.1 in
+                let some : 0 < flat_count ds = omega (arith, mine.count, some_length mine.syms l.2.0 at) in
+                let counts : flat_count ds ≡ flat_count es = omega (arith, mine.count, n.count, ap length same) in
+                inr (k, shorter_first plan.rules ds es i J counts (widths_are plan ds mine.syms i J mine.trees) (widths_are plan es n.syms i J n.trees) (ends_before plan b r mine.syms J ds i J l.2.0 at l.2.2 x.holds.all some) l.3)
 
-        settled : (c : ℕ) (syms : List Sym) → IsLine plan r c syms → (es : FlatTrees) → flat_count es ≡ length syms → FlatDerivesFirst plan es syms i J →
-            Chain plan.rules (Nth plan b r syms J) es i J ⊎ Late plan b r syms J c es i → NodeOrSame plan.rules r a ds J c es
-        settled c syms line es count h (inl k) = helper_or_same plan.rules r a ds J helper c es (by_alt plan b r i J a c ds es x less (record { syms = syms; line = line; all = k; count = count }))
-        settled c syms line es count h (inr k) = helper_or_same plan.rules r a ds J helper c es (inr (later c syms line es count h k))
+        settled : (c : ℕ) (es : FlatTrees) (n : IsNode plan r i J c es) → Chain plan.rules (Nth plan b r n.syms J) es i J ⊎ Late plan b r n.syms J c es i → NodeOrSame plan.rules r a ds J c es
+        settled c es n (inl k) = helper_or_same plan.rules r a ds J helper c es (by_alt plan b r i J a c ds es x less (record { syms = n.syms; line = n.line; all = k; count = n.count }))
+        settled c es n (inr k) = helper_or_same plan.rules r a ds J helper c es (inr (later c es n k))
 
-        others : (z : FlatTree) → TreeWithin plan b (sy.Rule r m) i J z → (z ≡ flat_node r a ds) ⊎ FlatBefore plan.rules (flat_node r a ds) z J
-        others (flat_text y z) h = absurd (cc h.0.2.3)
-        others flat_insertion h = absurd (cc h.0.1)
-        others (flat_node q c es) ((m', is, syms, line', count, h), high) =
-            let e : q ≡ r = cc is in
-            let line : IsLine plan r c syms = subst (λ (z : ℕ). IsLine plan z c syms) e line' in
-            let under : flat_heights plan.rules es ≤ b = low c es (subst (λ (z : ℕ). flat_height plan.rules (flat_node z c es) ≤ b) e high) in
-            subst (λ (z : ℕ). (flat_node z c es ≡ flat_node r a ds) ⊎ FlatBefore plan.rules (flat_node r a ds) (flat_node z c es) J) (sym e)
-            (settled c syms line es count h (to_chain plan nested b r c syms line J es i J (omega arith) h under))
+        others : (c : ℕ) (es : FlatTrees) → IsNode plan r i J c es → flat_height plan.rules (flat_node r c es) ≤ b → NodeOrSame plan.rules r a ds J c es
+        others c es n high = settled c es n (to_chain plan nested b r c n.syms n.line J es i J (omega arith) n.trees (low c es high))

@@ -21,5 +21,6 @@ pub mod NestedAnswered
 pub mod Nesting
 pub mod NoNesting
 pub mod NodeKinds
+pub mod Nodes
 pub mod SameFlat
 pub mod Symbols

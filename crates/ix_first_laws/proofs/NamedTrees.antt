@@ -1,14 +1,13 @@
 -- The first tree of a named rule over a span: under the next bound on the height, from the first trees of its alternatives under this one.
-use Rattle.std.proofs.Common.{◌≡◌, refl, sym, ap, subst, ◌∙◌, ◌⊎◌, ◌+◌, ◌<◌, ◌≤◌, ℕ, suc, List, length, arith, Option}
+use Rattle.std.proofs.Common.{◌≡◌, sym, ◌∙◌, ◌⊎◌, ◌+◌, ◌<◌, ◌≤◌, ℕ, suc, arith, Option}
 use mathlib.Core.Logic.{inl, inr}
 use Rattle.ix_model.specs.declared.grammar.Mark.{Mark}
 use Rattle.ix_model.specs.declared.rules.Kind.TheVariants as kind
-use Rattle.ix_model.specs.declared.rules.Sym.{Sym}
 use Rattle.ix_model.specs.declared.rules.Sym.TheVariants as sy
 use Rattle.ix_model.specs.Expansion.Parts.{Parts}
-use Rattle.ix_model.specs.Expansion.Numbered.{kind_at, lines_at}
-use Rattle.ix_model.specs.Expansion.FlatTrees.{FlatTree, flat_text, flat_insertion, flat_node, FlatTrees, flat_count}
-use Rattle.ix_model.specs.Expansion.FlatDerives.{FlatDerives, FlatDerivesFirst, IsLine}
+use Rattle.ix_model.specs.Expansion.Numbered.{kind_at}
+use Rattle.ix_model.specs.Expansion.FlatTrees.{FlatTree, flat_node, FlatTrees}
+use Rattle.ix_model.specs.Expansion.FlatDerives.{FlatDerives, FlatDerivesFirst}
 use Rattle.ix_model.specs.Expansion.FlatHeights.{flat_height, flat_heights}
 use Rattle.ix_model.specs.Expansion.FlatOrder.{FlatBefore}
 use Rattle.ix_model.proofs.Decide.{Answered}
@@ -19,35 +18,38 @@ use Rattle.ix_first_laws.proofs.Chains.{Chain}
 use Rattle.ix_first_laws.proofs.Lines.{line_within}
 use Rattle.ix_first_laws.proofs.NodeKinds.{raised_named, NodeOrSame, named_or_same, lower_named}
 use Rattle.ix_first_laws.proofs.Symbols.{FoundTree}
-use Rattle.ix_first_laws.proofs.Alternatives.{Nth, Late, to_chain, from_chain, NoAlt, LeastAlt, by_alt}
+use Rattle.ix_first_laws.proofs.Alternatives.{Nth, Late, to_chain, from_chain, AltOf, LeastAlt, by_alt}
+use Rattle.ix_first_laws.proofs.Nodes.{IsNode, node_derives, by_node}
 
--- of the trees of a named rule over one span, a higher one comes after
+-- ---- trees of a named rule over one span
+
 module _ (plan : Parts) (r i j : ℕ) (named : kind_at plan.rules r ≡ kind.Named) (m : Option Mark) where
-  pub higher_after : (d e : FlatTree) → FlatDerives plan d (sy.Rule r m) i j → FlatDerives plan e (sy.Rule r m) i j → flat_height plan.rules d < flat_height plan.rules e → (e ≡ d) ⊎ FlatBefore plan.rules d e j
-  higher_after (flat_text x y) e h k l = absurd (cc h.2.3)
-  higher_after flat_insertion e h k l = absurd (cc h.1)
-  higher_after (flat_node q a ds) (flat_text x y) h k l = absurd (cc k.2.3)
-  higher_after (flat_node q a ds) flat_insertion h k l = absurd (cc k.1)
-  higher_after (flat_node q a ds) (flat_node p c es) h k l =
-      let e : q ≡ r = cc h.1 in
-      let f : p ≡ r = cc k.1 in
-      let same : p ≡ q = f ∙ sym e in
-      let kq : kind_at plan.rules q ≡ kind.Named = ap (kind_at plan.rules) e ∙ named in
-      let kp : kind_at plan.rules p ≡ kind.Named = ap (kind_at plan.rules) f ∙ named in
-      subst (λ (z : ℕ). (flat_node z c es ≡ flat_node q a ds) ⊎ FlatBefore plan.rules (flat_node q a ds) (flat_node z c es) j) (sym same)
-      (lower_named plan.rules q a ds j kq c es (omega (arith, l, raised_named (kind_at plan.rules q) (flat_heights plan.rules ds) kq, raised_named (kind_at plan.rules p) (flat_heights plan.rules es) kp)))
+  pub named_height : (d : FlatTree) → FlatDerives plan d (sy.Rule r m) i j → 0 < flat_height plan.rules d
+  named_height d h = by_node plan r i j (λ y. 0 < flat_height plan.rules y) (λ a ds n. omega (arith, raised_named (kind_at plan.rules r) (flat_heights plan.rules ds) named)) d m h
+
+  -- z is the tree d, or comes after it
+  abbrev SameOrAfter : FlatTree → FlatTree → Type 0
+  SameOrAfter d z = (z ≡ d) ⊎ FlatBefore plan.rules d z j
+
+  -- a higher one comes after
+  pub higher_after : (d e : FlatTree) → FlatDerives plan d (sy.Rule r m) i j → FlatDerives plan e (sy.Rule r m) i j → flat_height plan.rules d < flat_height plan.rules e → SameOrAfter d e
+  higher_after d e h k = by_node plan r i j (λ y. flat_height plan.rules y < flat_height plan.rules e → SameOrAfter y e) (λ a ds n. after a ds) d m h
+    where
+      after : (a : ℕ) (ds : FlatTrees) → flat_height plan.rules (flat_node r a ds) < flat_height plan.rules e → SameOrAfter (flat_node r a ds) e
+      after a ds = by_node plan r i j (λ z. flat_height plan.rules (flat_node r a ds) < flat_height plan.rules z → SameOrAfter (flat_node r a ds) z)
+          (λ c es n l. lower_named plan.rules r a ds j named c es (omega (arith, l, raised_named (kind_at plan.rules r) (flat_heights plan.rules ds) named, raised_named (kind_at plan.rules r) (flat_heights plan.rules es) named))) e m k
 
 module _ (plan : Parts) (nested : IsNested plan.rules) (b r i J : ℕ) (named : kind_at plan.rules r ≡ kind.Named) where
   height_is : (c : ℕ) (es : FlatTrees) → flat_height plan.rules (flat_node r c es) ≡ flat_heights plan.rules es + 1
   height_is c es = raised_named (kind_at plan.rules r) (flat_heights plan.rules es) named
 
-  -- only a list is late
-  never_late : (c : ℕ) (syms : List Sym) (es : FlatTrees) → Chain plan.rules (Nth plan b r syms J) es i J ⊎ Late plan b r syms J c es i → Chain plan.rules (Nth plan b r syms J) es i J
-  never_late c syms es (inl h) = h
-  never_late c syms es (inr h) = absurd (cc (named, h.1))
-
-  all_of : (c : ℕ) (syms : List Sym) → IsLine plan r c syms → (es : FlatTrees) → FlatDerivesFirst plan es syms i J → flat_heights plan.rules es ≤ b → Chain plan.rules (Nth plan b r syms J) es i J
-  all_of c syms line es h under = never_late c syms es (to_chain plan nested b r c syms line J es i J (omega arith) h under)
+  -- the trees of a node no higher than b + 1 are a chain, as only a list is late
+  alt_of : (c : ℕ) (es : FlatTrees) → IsNode plan r i J c es → flat_heights plan.rules es ≤ b → AltOf plan b r i J c es
+  alt_of c es n under = record { syms = n.syms; line = n.line; all = never_late (to_chain plan nested b r c n.syms n.line J es i J (omega arith) n.trees under); count = n.count }
+    where
+      never_late : Chain plan.rules (Nth plan b r n.syms J) es i J ⊎ Late plan b r n.syms J c es i → Chain plan.rules (Nth plan b r n.syms J) es i J
+      never_late (inl h) = h
+      never_late (inr h) = absurd (cc (named, h.1))
 
   module _ (m : Option Mark) where
     -- ---- where a tree is within b, the first of them is first within b + 1
@@ -62,47 +64,38 @@ module _ (plan : Parts) (nested : IsNested plan.rules) (b r i J : ℕ) (named : 
     -- ---- where none is within b, all trees within b + 1 have that height, and the least alternative decides
 
     module _ (none : (z : FlatTree) → TreeWithin plan b (sy.Rule r m) i J z → ⊥) where
-      nowhere : ((a : ℕ) → a < length (lines_at plan.rules r) → NoAlt plan b r i J a) → (z : FlatTree) → TreeWithin plan (suc b) (sy.Rule r m) i J z → ⊥
-      nowhere no_alt (flat_text y z) h = cc h.0.2.3
-      nowhere no_alt flat_insertion h = cc h.0.1
-      nowhere no_alt (flat_node q c es) ((m', is, syms, line', count, h), high) =
-          let e : q ≡ r = cc is in
-          let line : IsLine plan r c syms = subst (λ (z : ℕ). IsLine plan z c syms) e line' in
-          let k : flat_height plan.rules (flat_node r c es) ≤ suc b = subst (λ (z : ℕ). flat_height plan.rules (flat_node z c es) ≤ suc b) e high in
-          let under : flat_heights plan.rules es ≤ b = omega (arith, k, height_is c es) in
-          no_alt c (line_within plan r c syms line) es (record { syms = syms; line = line; all = all_of c syms line es h under; count = count })
-
       this_high : LeastAlt plan b r i J → FoundTree plan (suc b) (sy.Rule r m) i J
-      this_high (inr no_alt) = inr (nowhere no_alt)
-      this_high (inl (a, _, (ds, x), less)) = inl (flat_node r a ds, record { holds = (derived, omega (arith, first.1, height_is a ds)); before = others })
+      this_high (inr no_alt) = inr (λ z h. by_node plan r i J (λ y. flat_height plan.rules y ≤ suc b → ⊥) nowhere z m h.0 h.1)
+        where
+          nowhere : (c : ℕ) (es : FlatTrees) → IsNode plan r i J c es → flat_height plan.rules (flat_node r c es) ≤ suc b → ⊥
+          nowhere c es n high = no_alt c (line_within plan r c n.syms n.line) es (alt_of c es n (omega (arith, high, height_is c es)))
+      this_high (inl (a, _, (ds, x), less)) =
+          inl (
+            flat_node r a ds,
+            record {
+              holds = (node_derives plan r i J m a ds mine, omega (arith, first.1, height_is a ds));
+              before = λ z h. by_node plan r i J (λ y. flat_height plan.rules y ≤ suc b → (y ≡ flat_node r a ds) ⊎ FlatBefore plan.rules (flat_node r a ds) y J) others z m h.0 h.1;
+            },
+          )
         where
           first : FlatDerivesFirst plan ds x.holds.syms i J × (flat_heights plan.rules ds ≤ b)
           first = from_chain plan b r x.holds.syms J ds i J x.holds.all
 
-          derived : FlatDerives plan (flat_node r a ds) (sy.Rule r m) i J
-          derived = (m, refl, x.holds.syms, x.holds.line, x.holds.count, first.0)
+          mine : IsNode plan r i J a ds
+          mine = record { syms = x.holds.syms; line = x.holds.line; count = x.holds.count; trees = first.0 }
 
-          full : (c : ℕ) (es : FlatTrees) → FlatDerives plan (flat_node r c es) (sy.Rule r m) i J → flat_heights plan.rules es ≤ b → flat_heights plan.rules es ≡ b
-          full c es h k = by_height (grind arith)
+          full : (c : ℕ) (es : FlatTrees) → IsNode plan r i J c es → flat_heights plan.rules es ≤ b → flat_heights plan.rules es ≡ b
+          full c es n k = by_height (grind arith)
             where
               by_height : Answered (flat_height plan.rules (flat_node r c es) ≤ b) → flat_heights plan.rules es ≡ b
-              by_height (inl q) = absurd (none (flat_node r c es) (h, q))
+              by_height (inl q) = absurd (none (flat_node r c es) (node_derives plan r i J m c es n, q))
               by_height (inr q) = grind (arith, q, k, height_is c es)
 
-          settled : (c : ℕ) (es : FlatTrees) (syms : List Sym) → IsLine plan r c syms → flat_count es ≡ length syms → FlatDerivesFirst plan es syms i J → flat_heights plan.rules es ≤ b → NodeOrSame plan.rules r a ds J c es
-          settled c es syms line count h under =
-              named_or_same plan.rules r a ds J named c es (full a ds derived first.1 ∙ sym (full c es (m, refl, syms, line, count, h) under))
-              (by_alt plan b r i J a c ds es x less (record { syms = syms; line = line; all = all_of c syms line es h under; count = count }))
+          settled : (c : ℕ) (es : FlatTrees) → IsNode plan r i J c es → flat_heights plan.rules es ≤ b → NodeOrSame plan.rules r a ds J c es
+          settled c es n under = named_or_same plan.rules r a ds J named c es (full a ds mine first.1 ∙ sym (full c es n under)) (by_alt plan b r i J a c ds es x less (alt_of c es n under))
 
-          others : (z : FlatTree) → TreeWithin plan (suc b) (sy.Rule r m) i J z → (z ≡ flat_node r a ds) ⊎ FlatBefore plan.rules (flat_node r a ds) z J
-          others (flat_text y z) h = absurd (cc h.0.2.3)
-          others flat_insertion h = absurd (cc h.0.1)
-          others (flat_node q c es) ((m', is, syms, line', count, h), high) =
-              let e : q ≡ r = cc is in
-              let line : IsLine plan r c syms = subst (λ (z : ℕ). IsLine plan z c syms) e line' in
-              let k : flat_height plan.rules (flat_node r c es) ≤ suc b = subst (λ (z : ℕ). flat_height plan.rules (flat_node z c es) ≤ suc b) e high in
-              subst (λ (z : ℕ). (flat_node z c es ≡ flat_node r a ds) ⊎ FlatBefore plan.rules (flat_node r a ds) (flat_node z c es) J) (sym e)
-              (settled c es syms line count h (omega (arith, k, height_is c es)))
+          others : (c : ℕ) (es : FlatTrees) → IsNode plan r i J c es → flat_height plan.rules (flat_node r c es) ≤ suc b → NodeOrSame plan.rules r a ds J c es
+          others c es n high = settled c es n (omega (arith, high, height_is c es))
 
     pub named_found : FoundTree plan b (sy.Rule r m) i J → LeastAlt plan b r i J → FoundTree plan (suc b) (sy.Rule r m) i J
     named_found (inl (d, y)) l = lower d y
@@ -110,12 +103,4 @@ module _ (plan : Parts) (nested : IsNested plan.rules) (b r i J : ℕ) (named : 
 
     -- no tree of a named rule has the height 0
     pub named_zero : b ≡ 0 → FoundTree plan b (sy.Rule r m) i J
-    named_zero z = inr none
-      where
-        none : (e : FlatTree) → TreeWithin plan b (sy.Rule r m) i J e → ⊥
-        none (flat_text x y) h = cc h.0.2.3
-        none flat_insertion h = cc h.0.1
-        none (flat_node q c es) h =
-            let e : q ≡ r = cc h.0.1 in
-            let k : flat_height plan.rules (flat_node r c es) ≤ b = subst (λ (z : ℕ). flat_height plan.rules (flat_node z c es) ≤ b) e h.1 in
-            omega (arith, k, z, height_is c es)
+    named_zero z = inr (λ e h. omega (arith, z, h.1, named_height plan r i J named m e h.0))

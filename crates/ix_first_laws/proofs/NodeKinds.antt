@@ -1,5 +1,6 @@
 -- Named rules and helpers: how high a node of each is, and when it is before another.
 use Rattle.std.proofs.Common.{◌≡◌, refl, ◌⊎◌, ◌+◌, ◌<◌, ℕ}
+use Rattle.std.proofs.lemmas.Bool.{cases_order}
 use mathlib.Core.Logic.{inl, inr}
 use Rattle.ix_model.specs.declared.rules.Kind.{Kind}
 use Rattle.ix_model.specs.declared.rules.Kind.TheVariants as kind
@@ -9,6 +10,7 @@ use Rattle.ix_model.specs.Expansion.FlatHeights.{raised, flat_heights}
 use Rattle.ix_model.specs.Expansion.FlatOrder.{NodeBefore, FlatBefore, FlatsBefore}
 use Rattle.ix_model.specs.Expansion.Numbered.{kind_at}
 use Rattle.ix_model.proofs.Decide.{Answered}
+use Rattle.ix_tree_laws.proofs.Found.{InSomeOrder}
 
 -- the kind of a helper
 abbrev pub Helper : Kind → Type 0
@@ -69,6 +71,19 @@ module _ (rules : Rules) (r a : ℕ) (ds : FlatTrees) (j : ℕ) where
   -- by alternatives, and then by trees
   abbrev pub AltBefore : ℕ → FlatTrees → Type 0
   AltBefore c es = (a < c) ⊎ (a ≡ c) × FlatsBefore rules ds es j
+
+  -- the least alternative with its first trees is before each node, or the same
+  pub first_or_same : (c : ℕ) (es : FlatTrees) → (c < a → ⊥) → (a ≡ c → (es ≡ ds) ⊎ FlatsBefore rules ds es j) → ((a ≡ c) × (es ≡ ds)) ⊎ AltBefore c es
+  first_or_same c es least first = by_number (cases_order a c)
+    where
+      same : a ≡ c → (es ≡ ds) ⊎ FlatsBefore rules ds es j → ((a ≡ c) × (es ≡ ds)) ⊎ AltBefore c es
+      same e (inl p) = inl (e, p)
+      same e (inr p) = inr (inr (e, p))
+
+      by_number : InSomeOrder a c → ((a ≡ c) × (es ≡ ds)) ⊎ AltBefore c es
+      by_number (inl k) = same k (first k)
+      by_number (inr (inl k)) = inr (inl k)
+      by_number (inr (inr k)) = absurd (least k)
 
   abbrev pub NodeOrSame : ℕ → FlatTrees → Type 0
   NodeOrSame c es = (flat_node r c es ≡ flat_node r a ds) ⊎ FlatBefore rules (flat_node r a ds) (flat_node r c es) j
