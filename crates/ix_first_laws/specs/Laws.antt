@@ -40,6 +40,10 @@ FirstIsFlatFirst = (g : Grammar) (plan : Parts) (d : Tree) → IsPlanOf g plan �
 abbrev pub ExpandedIsNested : Type 0
 ExpandedIsNested = (g : Grammar) (rules : Rules) → Expanded g rules → IsNested rules
 
+-- the first rule of a grammar's plan is named
+abbrev pub RootIsNamed : Type 0
+RootIsNamed = (g : Grammar) (plan : Parts) → IsPlanOf g plan → kind_at plan.rules 0 ≡ kind.Named
+
 -- over nested rules with a named first rule, where there is a derivation, there is a first one
 abbrev pub FlatFirstExists : Type 0
 FlatFirstExists = (plan : Parts) (d : FlatTree) → IsNested plan.rules → kind_at plan.rules 0 ≡ kind.Named → IsFlatDerivation plan d → (e : FlatTree) × FlatFirst plan e

@@ -1,5 +1,5 @@
 //! Laws of heights and of the first derivation over the numbered rules. Each function's contract is the law; the bodies are empty.
-ghost use Rattle.ix_first_laws.specs.Laws.{ExpandedIsNested, FirstIsFlatFirst, FirstTreeOfPlan, FlatFirstExists, FlatFirstIsFirst, FlatFirstIsOne, FlatHeightsAreHeights};
+ghost use Rattle.ix_first_laws.specs.Laws.{ExpandedIsNested, FirstIsFlatFirst, FirstTreeOfPlan, FlatFirstExists, FlatFirstIsFirst, FlatFirstIsOne, FlatHeightsAreHeights, RootIsNamed};
 
 /// A tree over the numbered rules that derives some span is as high as the written tree that it stands for.
 pub fn flat_heights_are_heights()
@@ -19,6 +19,11 @@ pub fn first_is_flat_first()
 /// The numbered rules of a grammar are nested.
 pub fn expanded_is_nested()
     ensures { ExpandedIsNested }
+{}
+
+/// The first rule of a grammar's plan is named.
+pub fn root_is_named()
+    ensures { RootIsNamed }
 {}
 
 /// Where a text has a derivation over nested rules, the first of which is named, one is first, also where it has infinitely
