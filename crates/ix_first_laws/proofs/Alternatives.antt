@@ -1,4 +1,5 @@
--- The first trees of the alternatives of a rule over a span. A list within itself is looked for over shorter spans alone.
+-- The first trees of the alternatives of a rule over a span. Within itself a list is looked for over spans that end sooner, so that the
+-- search ends.
 use Rattle.std.proofs.Common.{◌≡◌, refl, sym, ap, subst, ◌∙◌, ◌⊎◌, ◌+◌, ◌<◌, ◌≤◌, ℕ, List, length, arith, slice_get, Some, None, Option}
 use mathlib.Core.Logic.{inl, inr}
 use Rattle.ix_model.specs.declared.grammar.Mark.{Mark}
@@ -21,7 +22,6 @@ use Rattle.ix_first_laws.proofs.Lines.{line_at, leads}
 use Rattle.ix_first_laws.proofs.NodeKinds.{is_list, AltBefore, first_or_same}
 use Rattle.ix_first_laws.proofs.Symbols.{FoundTree}
 
--- a node of a tree: an alternative, and trees for its symbols
 module _ (plan : Parts) where
   -- the symbol is the list that it stands in
   abbrev pub Self : ℕ → Sym → Type 0
@@ -149,6 +149,6 @@ module _ (plan : Parts) where
     pub least_alt : ((a : ℕ) (syms : List Sym) (n i k : ℕ) → IsLine plan r a syms → FoundNth plan.rules (Nth b r syms J) n i k) → LeastAlt
     least_alt each = least (λ a. (ds : FlatTrees) × FirstAlt a ds) NoAlt (length (lines_at plan.rules r)) (λ a h. alt_at a (each a) (line_at plan r a))
 
-    -- it is before the trees of each alternative, or the same
+    -- they are before the trees of each alternative, or the same
     pub by_alt : (a c : ℕ) (ds es : FlatTrees) → FirstAlt a ds → ((m : ℕ) → m < a → NoAlt m) → AltOf c es → ((a ≡ c) × (es ≡ ds)) ⊎ AltBefore plan.rules r a ds J c es
     by_alt a c ds es x less h = first_or_same plan.rules r a ds J c es (λ k. less c k es h) (λ k. x.before es (subst (λ (z : ℕ). AltOf z es) (sym k) h))

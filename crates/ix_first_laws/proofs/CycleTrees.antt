@@ -26,7 +26,7 @@ literal_is_text plan (flat_node r a ds) n i j h = absurd (cc h.1)
 abbrev pub a_cycle : Parts
 a_cycle = cycle (codes "a")
 
--- the tree of the literal, and that of a tree
+-- the tree of the literal, and a tree that holds another one
 pub data CycleTree : FlatTree → ℕ → ℕ → Type 0 where
   by_literal : CycleTree (a_by 1) 0 1
   by_cycle : (d : FlatTree) (i j : ℕ) → FlatDerives a_cycle d (call 0) i j → CycleTree (flat_node 0 0 (alone d)) i j
@@ -51,7 +51,7 @@ cycle_tree d i j h =
 pub cycle_height : (d : FlatTree) (i j : ℕ) → FlatDerives a_cycle d (call 0) i j → 1 ≤ flat_height a_cycle.rules d
 cycle_height d i j h = named_height a_cycle 0 i j refl None d h
 
--- each tree up to this height has the whole text
+-- each tree up to this height ends with the text
 pub cycle_span : (n : ℕ) (d : FlatTree) (i j : ℕ) → flat_height a_cycle.rules d ≤ n → FlatDerives a_cycle d (call 0) i j → j ≡ 1
 cycle_span zero d i j l h = absurd (omega (arith, l, cycle_height d i j h))
 cycle_span (suc n) d i j l h = by_tree d i j (cycle_tree d i j h) l (cycle_span n)

@@ -14,7 +14,7 @@ use Rattle.ix_first_laws.proofs.FlatFound.{found_within}
 use Rattle.ix_first_laws.proofs.FlatFoundAll.{FoundTrees, found_all_within}
 use Rattle.ix_first_laws.proofs.NestedAnswered.{nested_answered}
 
--- what is found, or x
+-- what is found, or else x
 abbrev found_or : (X : Type 0) (x : X) (P : X → Type 0) (Q : X → X → Type 0) → Found X P Q → X
 found_or X x P Q (inl h) = h.0
 found_or X x P Q (inr h) = x

@@ -1,4 +1,4 @@
--- The first derivation over the numbered rules: the first within any bound that a derivation keeps, where the first rule is named.
+-- The first derivation over the numbered rules, where the first rule is named: the first one within any bound that some derivation keeps.
 use Rattle.std.proofs.Common.{◌≡◌, ◌≢◌, sym, ◌⊎◌, ◌≤◌, ℕ, length, None, arith}
 use mathlib.Core.Logic.{inl, inr}
 use Rattle.ix_model.specs.declared.rules.Kind.TheVariants as kind

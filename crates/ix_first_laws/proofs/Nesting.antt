@@ -32,7 +32,7 @@ in_lines P (syms ∷ lines) zero n x h e = at_all P syms n x h.0 e
 in_lines P (syms ∷ lines) (suc a) n x h e = in_lines P lines a n x h.1 e
 
 module _ (g : Grammar) (rules : Rules) (e : Expanded g rules) where
-  -- a rule of the grammar, or one after r
+  -- to a rule of the grammar, or to one after r
   leads_from : (r a n q : ℕ) (m : Option Mark) → From g rules (r + 1) (sy.Rule q m) → MayLead rules r a n q
   leads_from r a n q m (inl h) = inr (inl ((only_named g rules e q (omega (arith, h, names_first g rules e))).1 h))
   leads_from r a n q m (inr h) = inr (inr (inl (omega (arith, h))))
