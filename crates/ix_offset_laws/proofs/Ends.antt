@@ -8,8 +8,8 @@ use Rattle.ix_model.specs.Expansion.Planned.{IsPlanOf}
 use Rattle.ix_model.specs.Derivations.Offset.{IsReached, Offset}
 use Rattle.ix_model.proofs.Readers.{get_within}
 use Rattle.ix_offset_laws.specs.Furthest.{IsDotAt, Furthest}
-use Rattle.ix_offset_laws.proofs.Following.{desc_reached}
-use Rattle.ix_offset_laws.proofs.Standing.{reached_desc}
+use Rattle.ix_offset_laws.proofs.ReachedDots.{desc_reached}
+use Rattle.ix_offset_laws.proofs.EnteredTerms.{reached_desc}
 
 module _ (g : Grammar) (plan : Parts) (k : IsPlanOf g plan) where
   pub dot_reached : (p : ℕ) → IsDotAt plan p → (p ≡ 0) ⊎ IsReached g plan.text p

@@ -1,5 +1,5 @@
--- Each descriptor stands at a written place that is entered: behind its dot the symbols follow as their terms do.
-use Rattle.std.proofs.Common.{◌≡◌, refl, ap, sym, subst, ◌∙◌, ◌⊎◌, ◌+◌, ℕ, zero, suc, List, [], ◌∷◌, Option, Some, None, arith, slice_get, drop}
+-- What follows behind the symbols of an alternative that is entered: each symbol is entered where the one before it ends.
+use Rattle.std.proofs.Common.{◌≡◌, refl, subst, ◌+◌, ℕ, zero, suc, List, [], ◌∷◌, Option, Some, None, arith, slice_get}
 use mathlib.Core.Logic.{inl, inr}
 use Rattle.std.specs.List.{AllByRecursion}
 use Rattle.std.specs.Char.{IsScalar}
@@ -13,55 +13,15 @@ use Rattle.ix_model.specs.declared.rules.Kind.TheVariants as kind
 use Rattle.ix_model.specs.declared.rules.Sym.{Sym}
 use Rattle.ix_model.specs.declared.rules.Sym.TheVariants as sy
 use Rattle.ix_model.specs.Expansion.Parts.{Parts}
-use Rattle.ix_model.specs.Expansion.Slots.{IsSlot}
 use Rattle.ix_model.specs.Grammars.Written.{IsOfRule}
-use Rattle.ix_model.specs.Derivations.Trees.{Repeated, one, again, again_after}
-use Rattle.ix_model.specs.Derivations.Derives.{Repeats}
-use Rattle.ix_model.specs.Derivations.Entered.{IsRepetition, IsDerived, AlternativeEntered, of_first_rule, of_call, of_group, PlaceEntered, first_term, next_term, Entered, at_place, of_option, as_item, as_separator, ItemEntered, first_item, next_item, item_behind, SeparatorEntered, separator_behind}
-use Rattle.ix_model.specs.Derivations.Offset.{IsReached}
-use Rattle.ix_model.specs.Expansion.FlatTrees.{FlatTree, flat_text, flat_insertion}
-use Rattle.ix_model.specs.Expansion.FlatDerives.{FlatDerives, IsLine, IsTerminal}
+use Rattle.ix_model.specs.Derivations.Entered.{IsRepetition, IsDerived, AlternativeEntered, of_call, of_group, PlaceEntered, first_term, next_term, Entered, at_place, of_option, as_item, as_separator, ItemEntered, first_item, next_item, item_behind, SeparatorEntered, separator_behind}
+use Rattle.ix_model.specs.Expansion.FlatTrees.{FlatTree}
+use Rattle.ix_model.specs.Expansion.FlatDerives.{FlatDerives, IsLine}
 use Rattle.ix_model.specs.Expansion.Expanded as X
 use Rattle.ix_model.specs.Expansion.Expanded.{Next, next_syms, HasFlat, TermBecomes, RepeatBecomes, SeparatorBecomes, FactorBecomes, AltsBecome, TermsBecome, Expanded}
 use Rattle.ix_model.specs.Expansion.Lift.{lift}
-use Rattle.ix_model.specs.Expansion.SlotPlaces.{HasNext, IsFirstSlot}
-use Rattle.ix_model.specs.Closure.Closed.{Called, start, by_edge, Desc, begun, arrived, Edge, waiting, End, ended, Part, empty, scanned, inserted, joined}
 use Rattle.ix_expansion_laws.proofs.Lifting.{alts_at, rules_at, line_of, lifts}
-use Rattle.ix_model.proofs.SlotPlaces.{same_slot, same_line, line_by}
-use Rattle.ix_closure_laws.proofs.ClosedTrees.{end_tree}
-
--- what stands at a place begins what stands from there on
-drop_at : {A : Type 0} (xs : List A) (n : ℕ) (y : A) → slice_get xs n ≡ Some y → drop n xs ≡ y ∷ drop (n + 1) xs
-drop_at [] n y e = absurd (cc e)
-drop_at (z ∷ zs) zero y e =
-    let q : z ≡ y = cc e in
-    ap (λ w. w ∷ zs) q
-drop_at (z ∷ zs) (suc n) y e =
-    let o : suc (n + 1) ≡ suc n + 1 = omega arith in
-    drop_at zs n y e ∙ ap (λ (m : ℕ). y ∷ drop m (z ∷ zs)) o
-
--- ---- the items of a repetition
-
-module _ (g : Grammar) (s : List ℕ) where
-  -- an item is entered at some position and derives up to e
-  abbrev pub ItemUpTo : Term → Factor → ℕ → Type 0
-  ItemUpTo t f e = (k : ℕ) × ItemEntered g s t k × IsDerived g s (One f) k e
-
-  -- where a repetition's item is entered, and a list of items and separators derives from there, its last item is entered too
-  pub last_item : (ds : Repeated) (t : Term) (f : Factor) (sep : Option Factor) (p e : ℕ) → IsRepetition t f sep → ItemEntered g s t p → Repeats g s ds f sep p e → ItemUpTo t f e
-  last_item (one d) t f sep p e r h k = (p, h, (d, k))
-  last_item (again ds d) t f sep p e r h (q, k, a, b) =
-      let r' : IsRepetition t f None = subst (λ z. IsRepetition t f z) q r in
-      let l = last_item ds t f sep p k r h a in
-      (k, next_item t f l.0 k l.1 r' l.2, (d, b))
-  last_item (again_after ds c d) t f sep p e r h (w, q, k, m, a, b, v) =
-      let r' : IsRepetition t f (Some w) = subst (λ z. IsRepetition t f z) q r in
-      let l = last_item ds t f sep p k r h a in
-      (m, item_behind t f w k m (separator_behind t f w l.0 k l.1 r' l.2) r' (c, b), (d, v))
-
--- a list is a rule
-list_rule : (g : Grammar) (plan : Parts) (c e : Next) (f : Factor) (sep : Option Factor) (z : Sym) → RepeatBecomes g plan.rules c f sep z e → z ≡ sy.Rule c.rule None
-list_rule g plan c e f sep z (X.repeated _ d _ _ _ y sp k b o) = refl
+use Rattle.ix_offset_laws.proofs.LastItems.{last_item}
 
 module _ (g : Grammar) (plan : Parts) where
   -- the symbol stands for a term that is entered at p, or for the list of a repetition whose item is entered at p
@@ -99,7 +59,7 @@ module _ (g : Grammar) (plan : Parts) where
             let w : n + suc m ≡ suc n + m = omega arith in
             subst (λ (z : ℕ). slice_get terms z ≡ Some u) w (same (suc m) u i)
 
-    line_follows : (a b : Next) (alts : List Alt) (lines : List (List Sym)) → AltsBecome g plan.rules a alts lines b → (n : ℕ) (syms : List Sym) → slice_get lines n ≡ Some syms →
+    pub line_follows : (a b : Next) (alts : List Alt) (lines : List (List Sym)) → AltsBecome g plan.rules a alts lines b → (n : ℕ) (syms : List Sym) → slice_get lines n ≡ Some syms →
         (p : ℕ) → ((alt : Alt) → slice_get alts n ≡ Some alt → AlternativeEntered g plan.text alt.terms p) → Follow syms p
     line_follows a b alts lines h n syms e p enter =
         let m = alts_at g plan.rules a b alts lines h n syms e in
@@ -107,7 +67,7 @@ module _ (g : Grammar) (plan : Parts) where
 
     -- ---- a rule's alternatives, by what its symbol stands for
 
-    named_follows : (r : ℕ) (rule : Rule) → slice_get g.rules r ≡ Some rule → (a : ℕ) (syms : List Sym) → IsLine plan r a syms → (p : ℕ) → ((terms : List Term) → IsOfRule g r a terms → AlternativeEntered g plan.text terms p) → Follow syms p
+    pub named_follows : (r : ℕ) (rule : Rule) → slice_get g.rules r ≡ Some rule → (a : ℕ) (syms : List Sym) → IsLine plan r a syms → (p : ℕ) → ((terms : List Term) → IsOfRule g r a terms → AlternativeEntered g plan.text terms p) → Follow syms p
     named_follows r rule e a syms line p enter =
         let w = rules_at g plan.rules 0 _ _ g.rules x.walk r rule e in
         let f : HasFlat plan.rules r kind.Named w.0 = subst (λ (z : ℕ). HasFlat plan.rules z kind.Named w.0) (omega arith) w.3 in
@@ -197,84 +157,6 @@ module _ (g : Grammar) (plan : Parts) where
         let here : IsLine plan c.rule a syms = subst (λ (v : ℕ). IsLine plan v a syms) q line in
         star_line _ d f sep y b p h a syms (line_of g plan.rules plan.slots plan.text c.rule a kind.Star ([] ∷ (y ∷ []) ∷ []) syms k here)
 
-    symbol_follows : (z : Sym) (p : ℕ) → SymbolEntered z p → (r : ℕ) (m : Option Mark) → z ≡ sy.Rule r m → (a : ℕ) (syms : List Sym) → IsLine plan r a syms → Follow syms p
+    pub symbol_follows : (z : Sym) (p : ℕ) → SymbolEntered z p → (r : ℕ) (m : Option Mark) → z ≡ sy.Rule r m → (a : ℕ) (syms : List Sym) → IsLine plan r a syms → Follow syms p
     symbol_follows z p (of_term c d t _ _ w h) r m e a syms line = term_follows c d t z w r m e p h a syms line
     symbol_follows z p (of_list c d t f sep _ _ w rep h) r m e a syms line = list_follows c d f sep z w r m e t rep p h a syms line
-
-    -- ---- slots
-
-    -- the symbols behind the slot's dot follow from p on
-    abbrev pub IsFollowed : ℕ → ℕ → Type 0
-    IsFollowed n p = (r a dot : ℕ) (syms : List Sym) → IsSlot plan n r a dot → IsLine plan r a syms → Follow (drop dot syms) p
-
-    begun_followed : (rule at n : ℕ) → IsFirstSlot plan n rule → ((a : ℕ) (syms : List Sym) → IsLine plan rule a syms → Follow syms at) → IsFollowed n at
-    begun_followed rule at n f c r a dot syms h line =
-        let q = same_slot plan n rule f.0 0 r a dot f.2 h in
-        let here : IsLine plan rule a syms = subst (λ (z : ℕ). IsLine plan z a syms) (sym q.0) line in
-        subst (λ (z : ℕ). Follow (drop z syms) at) q.2 (c a syms here)
-
-    next_followed : (n after p : ℕ) (y : Sym) → (h : HasNext plan n after y) → IsFollowed n p → SymbolEntered y p × ((e : ℕ) → IsSpan y p e → Follow (drop (h.2 + 1) h.3) e)
-    next_followed n after p y h b = subst (λ zs. Follow zs p) (drop_at h.3 h.2 y h.7) (b h.0 h.1 h.2 h.3 h.4 h.6)
-
-    moved : (n after p e : ℕ) (y : Sym) → HasNext plan n after y → IsFollowed n p → IsSpan y p e → IsFollowed after e
-    moved n after p e y h b v r a dot syms at line =
-        let q = same_slot plan after h.0 h.1 (h.2 + 1) r a dot h.5 at in
-        let u = same_line plan r a h.3 syms (line_by plan h.0 r h.1 a h.3 q.0 q.1 h.6) line in
-        subst (λ (z : ℕ). Follow (drop z syms) e) q.2 (subst (λ zs. Follow (drop (h.2 + 1) zs) e) u ((next_followed n after p y h b).1 e v))
-
-    module _ (rule0 : Rule) (at0 : slice_get g.rules 0 ≡ Some rule0) where
-      mutual
-        pub called_follows : (q p : ℕ) → Called plan q p → (a : ℕ) (syms : List Sym) → IsLine plan q a syms → Follow syms p
-        called_follows q p start a syms line = named_follows 0 rule0 at0 a syms line 0 (λ terms o. of_first_rule a terms o)
-        called_follows q p (by_edge rule at n left e) a syms line =
-            let h = edge_entered rule at n left e in
-            symbol_follows (sy.Rule rule h.0) at h.1 rule h.0 refl a syms line
-
-        edge_entered : (q p n l : ℕ) → Edge plan q p n l → (m : Option Mark) × SymbolEntered (sy.Rule q m) p
-        edge_entered q p n l (waiting slot left at after rule mark d h) = (mark, (next_followed slot after at (sy.Rule rule mark) h (desc_followed slot left at d)).0)
-
-        edge_followed : (q p n l : ℕ) → Edge plan q p n l → IsFollowed n p
-        edge_followed q p n l (waiting slot left at after rule mark d h) = desc_followed slot left at d
-
-        pub desc_followed : (n l p : ℕ) → Desc plan n l p → IsFollowed n p
-        desc_followed n l p (begun rule at slot c f) = begun_followed rule at slot f (called_follows rule at c)
-        desc_followed n l p (arrived slot left pivot right h) = part_followed slot left pivot right h
-
-        part_followed : (n l k r : ℕ) → Part plan n l k r → IsFollowed n r
-        part_followed n l k r (empty rule at slot c f e) = begun_followed rule at slot f (called_follows rule at c)
-        part_followed n l k r (scanned slot left pivot after right y d h t) = moved slot after pivot right y h (desc_followed slot left pivot d) (flat_text pivot right, (refl, refl, t))
-        part_followed n l k r (inserted slot left pivot after m d h) = moved slot after pivot pivot (sy.Insert m) h (desc_followed slot left pivot d) (flat_insertion, (m, refl, refl))
-        part_followed n l k r (joined rule pivot slot left right after mark e f h) =
-            let t = end_tree plan rule pivot right f in
-            moved slot after pivot right (sy.Rule rule mark) h (edge_followed rule pivot slot left e) (t.0, t.1 mark)
-
-      -- ---- positions
-
-      -- a terminal that is entered and matches ends where a literal or set that is entered does
-      entered_reached : (y : Sym) (p e : ℕ) → SymbolEntered y p → IsTerminal plan y p e → IsReached g plan.text e
-      entered_reached y p e (of_term a b t _ _ w h) m = (t, p, h, ((lifts g plan.rules plan.slots plan.text chars x (flat_text p e)).term a b t y p e w (refl, refl, m)).2)
-      entered_reached y p e (of_list a b t f sep _ _ w rep h) m = absurd (cc (m.3, list_rule g plan a b f sep y w))
-
-      abbrev pub IsZeroOrReached : ℕ → Type 0
-      IsZeroOrReached p = (p ≡ 0) ⊎ IsReached g plan.text p
-
-      mutual
-        called_reached : (q p : ℕ) → Called plan q p → IsZeroOrReached p
-        called_reached q p start = inl refl
-        called_reached q p (by_edge rule at n left e) = edge_reached rule at n left e
-
-        edge_reached : (q p n l : ℕ) → Edge plan q p n l → IsZeroOrReached p
-        edge_reached q p n l (waiting slot left at after rule mark d h) = desc_reached slot left at d
-
-        pub desc_reached : (n l p : ℕ) → Desc plan n l p → IsZeroOrReached p
-        desc_reached n l p (begun rule at slot c f) = called_reached rule at c
-        desc_reached n l p (arrived slot left pivot right h) = part_reached slot left pivot right h
-
-        end_reached : (q l e : ℕ) → End plan q l e → IsZeroOrReached e
-        end_reached q l e (ended slot left right rule d h) = desc_reached slot left right d
-
-        part_reached : (n l k r : ℕ) → Part plan n l k r → IsZeroOrReached r
-        part_reached n l k r (empty rule at slot c f e) = called_reached rule at c
-        part_reached n l k r (scanned slot left pivot after right y d h t) = inr (entered_reached y pivot right (next_followed slot after pivot y h (desc_followed slot left pivot d)).0 t)
-        part_reached n l k r (inserted slot left pivot after m d h) = desc_reached slot left pivot d
-        part_reached n l k r (joined rule pivot slot left right after mark e f h) = end_reached rule pivot right f

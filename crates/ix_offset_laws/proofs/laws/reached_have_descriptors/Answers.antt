@@ -1,4 +1,4 @@
-use Rattle.ix_offset_laws.proofs.Standing.{reached_desc}
+use Rattle.ix_offset_laws.proofs.EnteredTerms.{reached_desc}
 use Rattle.ix_offset_laws.proofs.laws.reached_have_descriptors.Goals as goal
 
 pub returns : goal.returns
