@@ -1,8 +1,11 @@
 pub mod Descriptors
-pub mod Ends
 pub mod EnteredTerms
 pub mod FollowedDots
 pub mod Following
+pub mod FurthestOffset
+pub mod KeptPlaces
 pub mod LastItems
 pub mod ListDescriptors
 pub mod ReachedDots
+pub mod SmallDots
+pub mod SmallLists

@@ -1,17 +1,58 @@
-//! Laws of the furthest descriptor. Each function's contract is the law; the bodies are empty.
-ghost use Rattle.ix_offset_laws.specs.Furthest.{Furthest, DescriptorsAreReached, ReachedHaveDescriptors, FurthestIsOffset};
+//! Laws of the furthest descriptor, and worked examples of it. The contract is the law; the body is empty.
+ghost use Rattle.std.specs.Prelude.{codes};
+ghost use Rattle.ix_model.specs.Derivations.Offset.{Offset};
+ghost use Rattle.ix_model.specs.Expansion.Planned.{IsPlanned, IsPlanOf};
+ghost use Rattle.ix_examples.specs.SmallGrammars.{of_term, commas};
+ghost use Rattle.ix_examples.specs.SmallPlans.{only_a};
+ghost use Rattle.ix_offset_laws.specs.Examples.{commas_plan, no_rules};
+ghost use Rattle.ix_offset_laws.specs.Furthest.{HasDotAt, Furthest};
+ghost use Rattle.ix_offset_laws.specs.OffsetLaws.{DescriptorsAreReached, ReachedHaveDescriptors, FurthestIsOffset, FurthestIsOne};
 
-/// The position of each descriptor is 0, or the end of a literal or set that is entered and matches.
+/// Where a descriptor has its dot, the text begins, or a literal or set that is entered ends.
 pub fn descriptors_are_reached()
     ensures { DescriptorsAreReached }
 {}
 
-/// Where a literal or set that is entered ends, a descriptor stands.
+/// Where a literal or set that is entered ends, a descriptor has its dot.
 pub fn reached_have_descriptors()
     ensures { ReachedHaveDescriptors }
 {}
 
-/// The greatest position of a descriptor is the offset of the text.
+/// The furthest position of a descriptor is the offset of the text. A grammar that conforms and a text of characters
+/// have the premises, by the law of the plan of a conforming grammar.
 pub fn furthest_is_offset()
     ensures { FurthestIsOffset }
+{}
+
+/// No two positions are the furthest.
+pub fn furthest_is_one()
+    ensures { FurthestIsOne }
+{}
+
+/// A descriptor's dot stands before the literal of `S: "a".`, and behind it where it matches.
+pub fn dots_of_one_literal()
+    ensures before { HasDotAt (only_a (codes "ab")) 0 }
+    ensures behind { HasDotAt (only_a (codes "ab")) 1 }
+    ensures not_behind_all { ¬ (HasDotAt (only_a (codes "ab")) 2) }
+    ensures not_without_match { ¬ (HasDotAt (only_a (codes "b")) 1) }
+    ensures not_without_rules { ¬ (HasDotAt (no_rules (codes "a")) 0) }
+{}
+
+/// The furthest dot stands behind what is read, and at 0 where nothing is read or no rule is there.
+pub fn furthest_dots()
+    ensures shorter { Furthest (only_a (codes "ab")) 1 }
+    ensures not_nothing { ¬ (Furthest (only_a (codes "ab")) 0) }
+    ensures no_match { Furthest (only_a (codes "b")) 0 }
+    ensures not_unread { ¬ (Furthest (only_a (codes "b")) 1) }
+    ensures no_rule { Furthest (no_rules (codes "a")) 0 }
+    ensures not_of_no_rule { ¬ (Furthest (no_rules (codes "a")) 1) }
+{}
+
+/// On `aa` the second item of `S: "a"++",".` is not read, since no separator stands before it.
+pub fn missing_separator()
+    ensures planned { IsPlanned (commas_plan (codes "aa")) }
+    ensures plan { IsPlanOf (of_term commas) (commas_plan (codes "aa")) }
+    ensures furthest { Furthest (commas_plan (codes "aa")) 1 }
+    ensures not_both { ¬ (Furthest (commas_plan (codes "aa")) 2) }
+    ensures offset { Offset (of_term commas) (codes "aa") 1 }
 {}

@@ -1,4 +1,4 @@
-use Rattle.ix_offset_laws.proofs.Ends.{dot_reached}
+use Rattle.ix_offset_laws.proofs.FurthestOffset.{dot_reached}
 use Rattle.ix_offset_laws.proofs.laws.descriptors_are_reached.Goals as goal
 
 pub returns : goal.returns

@@ -1,4 +1,4 @@
-use Rattle.ix_offset_laws.proofs.Ends.{offset_of, furthest_of}
+use Rattle.ix_offset_laws.proofs.FurthestOffset.{offset_of, furthest_of}
 use Rattle.ix_offset_laws.proofs.laws.furthest_is_offset.Goals as goal
 
 pub returns : goal.returns

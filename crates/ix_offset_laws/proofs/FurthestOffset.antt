@@ -7,29 +7,29 @@ use Rattle.ix_model.specs.Expansion.Planned.{IsPlanned}
 use Rattle.ix_model.specs.Expansion.Planned.{IsPlanOf}
 use Rattle.ix_model.specs.Derivations.Offset.{IsReached, Offset}
 use Rattle.ix_model.proofs.Readers.{get_within}
-use Rattle.ix_offset_laws.specs.Furthest.{IsDotAt, Furthest}
+use Rattle.ix_offset_laws.specs.Furthest.{HasDotAt, Furthest}
 use Rattle.ix_offset_laws.proofs.ReachedDots.{desc_reached}
 use Rattle.ix_offset_laws.proofs.EnteredTerms.{reached_desc}
 
 module _ (g : Grammar) (plan : Parts) (k : IsPlanOf g plan) where
-  pub dot_reached : (p : ℕ) → IsDotAt plan p → (p ≡ 0) ⊎ IsReached g plan.text p
+  pub dot_reached : (p : ℕ) → HasDotAt plan p → (p ≡ 0) ⊎ IsReached g plan.text p
   dot_reached p h =
       let rule = get_within g.rules 0 k.first in
       desc_reached g plan k.text k.expanded rule.0 rule.1 h.0 h.1 p h.2
 
   module _ (planned : IsPlanned plan) where
-    pub reached_dot : (p : ℕ) → IsReached g plan.text p → IsDotAt plan p
+    pub reached_dot : (p : ℕ) → IsReached g plan.text p → HasDotAt plan p
     reached_dot p h = reached_desc g plan planned k.text k.expanded k.unique p h
 
     reached_or_zero : (o : ℕ) → (o ≡ 0) ⊎ IsReached g plan.text o → IsReached g plan.text o ⊎ (o ≡ 0)
     reached_or_zero o (inl e) = inr e
     reached_or_zero o (inr h) = inl h
 
-    dot_or_zero : (o : ℕ) → IsDotAt plan o ⊎ (o ≡ 0) → IsReached g plan.text o ⊎ (o ≡ 0)
+    dot_or_zero : (o : ℕ) → HasDotAt plan o ⊎ (o ≡ 0) → IsReached g plan.text o ⊎ (o ≡ 0)
     dot_or_zero o (inl h) = reached_or_zero o (dot_reached o h)
     dot_or_zero o (inr e) = inr e
 
-    come_or_zero : (o : ℕ) → IsReached g plan.text o ⊎ (o ≡ 0) → IsDotAt plan o ⊎ (o ≡ 0)
+    come_or_zero : (o : ℕ) → IsReached g plan.text o ⊎ (o ≡ 0) → HasDotAt plan o ⊎ (o ≡ 0)
     come_or_zero o (inl h) = inl (reached_dot o h)
     come_or_zero o (inr e) = inr e
 
@@ -42,3 +42,11 @@ module _ (g : Grammar) (plan : Parts) (k : IsPlanOf g plan) where
 
     pub furthest_of : (o : ℕ) → Offset g plan.text o → Furthest plan o
     furthest_of o h = (come_or_zero o h.0, λ p d. within o p h.1 (dot_reached p d))
+
+-- no two positions are the furthest
+pub furthest_is_one : (plan : Parts) (o p : ℕ) → Furthest plan o → Furthest plan p → o ≡ p
+furthest_is_one plan o p h k = omega (arith, below plan o p h k, below plan p o k h)
+  where
+    below : (plan : Parts) (a b : ℕ) → Furthest plan a → Furthest plan b → a ≤ b
+    below plan a b (inl d, u) y = y.1 a d
+    below plan a b (inr e, u) y = omega (arith, e)
