@@ -26,9 +26,11 @@ module _ (plan : Parts) where
     pub desc : Desc plan slot left p
     pub next : HasNext plan slot after y
 
+  -- an alternative of a numbered rule, by the list of its symbols
   pub line_at : (r a : ℕ) (k : Kind) (lines : List (List Sym)) (syms : List Sym) → HasFlat plan.rules r k lines → slice_get lines a ≡ Some syms → IsLine plan r a syms
   line_at r a k lines syms f e = (record { kind = k; lines = map line lines }, line syms, f, map_get line lines a syms e, refl)
 
+  -- a rule that a descriptor stands before is called there
   pub called_before : (r : ℕ) (m : Option Mark) (p : ℕ) → Before (sy.Rule r m) p → Called plan r p
   called_before r m p b = by_edge r p b.slot b.left (waiting b.slot b.left p b.after r m b.desc b.next)
 
@@ -45,6 +47,7 @@ module _ (plan : Parts) where
         let v = slot_for plan planned r a (n + 1) syms here (omega (arith, slice_get_within syms n y e)) in
         (v.0, v.1, (r, a, n, syms, at, v.1, here, e))
 
+    -- the descriptor of a slot stands before the symbol behind its dot
     pub before_at : (slot left p r a n : ℕ) (syms : List Sym) (y : Sym) → IsLine plan r a syms → IsSlot plan slot r a n → slice_get syms n ≡ Some y → Desc plan slot left p → Before y p
     before_at slot left p r a n syms y here at e d =
         let v = after_slot slot r a n syms y here at e in
@@ -56,5 +59,6 @@ module _ (plan : Parts) where
         let v = first_desc r a p syms here c in
         before_at v.0 p p r a 0 syms y here v.1 e v.2
 
+    -- where a tree derives from the symbol, the descriptor moves behind it
     pub passed : (slot left after p e : ℕ) (y : Sym) (d : FlatTree) → Desc plan slot left p → HasNext plan slot after y → FlatDerives plan d y p e → Desc plan after left e
     passed slot left after p e y d h n t = arrived after left p e (symbol_closed plan planned d slot after left p e y h n t)

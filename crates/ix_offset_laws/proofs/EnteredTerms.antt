@@ -32,7 +32,7 @@ use Rattle.ix_offset_laws.proofs.Descriptors.{Before, line_at, called_before, fi
 use Rattle.ix_offset_laws.proofs.ListDescriptors.{ItemAt, BehindAt, list_begins, next_line, list_ends, item_again}
 
 module _ (g : Grammar) (plan : Parts) where
-  -- and the term became this symbol
+  -- a descriptor stands at p with its dot before a symbol that the term became
   pub record TermAt (t : Term) (p : ℕ) : Type 0 where
     pub from : Next
     pub to : Next
@@ -76,6 +76,7 @@ module _ (g : Grammar) (plan : Parts) where
         let here = next_line g plan planned f (Some p) m.list syms (ap (next_syms r y) o.1) in
         record { from = m.list.middle; to = m.list.to; symbol = o.0; becomes = X.alone m.list.middle m.list.to p o.0 o.2; before = before_at plan planned m.slot m.left e r 1 1 syms o.0 here m.at refl m.desc }
 
+    -- the item that stands before the end of an alternative of its list
     item_there : (f : Factor) (sep : Option Factor) (p : ℕ) → ItemAt g plan f sep p → TermAt (One f) p
     item_there f sep p m = record {
       from = record m.list.from { rule = m.list.from.rule + 1 };
@@ -86,9 +87,11 @@ module _ (g : Grammar) (plan : Parts) where
     }
 
     module _ (chars : AllByRecursion IsScalar plan.text) (x : Expanded g plan.rules) (unique : HasUniqueNames g) where
+      -- a tree of the term is lowered to a tree of its symbol
       flat_of : (a b : Next) (t : Term) (y : Sym) (p e : ℕ) → TermBecomes g plan.rules a t y b → IsDerived g plan.text t p e → (d : FlatTree) × FlatDerives plan d y p e
       flat_of a b t y p e h d = (lower plan.rules d.0 y, lowers g plan.rules plan.slots plan.text chars x unique d.0 a b t y p e h d.1)
 
+      -- each alternative of a written rule that is called
       named_alternative : (r a : ℕ) (terms : List Term) (p : ℕ) → IsOfRule g r a terms → Called plan r p → AlternativeAt terms p
       named_alternative r a terms p (rule, e, (alt, i, same)) c =
           let w = rules_at g plan.rules 0 _ _ g.rules x.walk r rule e in
@@ -96,12 +99,14 @@ module _ (g : Grammar) (plan : Parts) where
           let m = to_alt g plan.rules w.1 w.2 rule.alts w.0 w.4 a alt i in
           record { rule = r; alt = a; syms = m.0; from = m.1; to = m.2; line = line_at plan r a kind.Named w.0 m.0 f m.3; becomes = subst (λ ts. TermsBecome g plan.rules m.1 ts m.0 m.2) same m.4; called = c }
 
+      -- each alternative of a rule whose call is entered
       called_alternative : (t : Term) (p r a : ℕ) (terms : List Term) → TermAt t p → Calls g t r → IsOfRule g r a terms → AlternativeAt terms p
       called_alternative t p r a terms h (mark, name, e, named) o =
           let c = L.of_call g plan.rules h.from h.to (Call mark name) h.symbol (of_one g plan.rules h.from h.to t h.symbol h.becomes (Call mark name) e) mark name refl in
           let q : c.0 ≡ r = unique c.0 r name c.2 named in
           named_alternative r a terms p o (subst (λ (z : ℕ). Called plan z p) q (called_before plan c.0 mark p (subst (λ z. Before plan z p) c.1 h.before)))
 
+      -- each alternative of a group that is entered
       grouped_alternative : (t : Term) (p a : ℕ) (terms : List Term) → TermAt t p → IsGroup t a terms → AlternativeAt terms p
       grouped_alternative t p a terms h (alts, e, (alt, i, same)) =
           let c = L.of_group g plan.rules h.from h.to (Group alts) h.symbol (of_one g plan.rules h.from h.to t h.symbol h.becomes (Group alts) e) alts refl in
@@ -117,11 +122,13 @@ module _ (g : Grammar) (plan : Parts) where
             called = called_before plan h.from.rule None p (subst (λ z. Before plan z p) c.1 h.before);
           }
 
+      -- the first term of an alternative
       place_first : (terms : List Term) (p : ℕ) → AlternativeAt terms p → PlaceAt terms 0 p
       place_first terms p h =
           let v = first_desc plan planned h.rule h.alt p h.syms h.line h.called in
           record { rule = h.rule; alt = h.alt; syms = h.syms; from = h.from; to = h.to; line = h.line; becomes = h.becomes; slot = v.0; left = p; at = v.1; desc = v.2 }
 
+      -- the next term, where one ends
       place_next : (terms : List Term) (n p e : ℕ) (t : Term) → PlaceAt terms n p → slice_get terms n ≡ Some t → IsDerived g plan.text t p e → PlaceAt terms (suc n) e
       place_next terms n p e t h i d =
           let m = to_term g plan.rules h.from h.to terms h.syms h.becomes n t i in
@@ -142,11 +149,13 @@ module _ (g : Grammar) (plan : Parts) where
             desc = passed plan planned h.slot h.left v.0 p e m.0 w.0 h.desc v.2 w.1;
           }
 
+      -- the term at a place, where there is one
       place_term : (terms : List Term) (n p : ℕ) (t : Term) → PlaceAt terms n p → slice_get terms n ≡ Some t → TermAt t p
       place_term terms n p t h i =
           let m = to_term g plan.rules h.from h.to terms h.syms h.becomes n t i in
           record { from = m.1; to = m.2; symbol = m.0; becomes = m.4; before = before_at plan planned h.slot h.left p h.rule h.alt n h.syms m.0 h.line h.at m.3 h.desc }
 
+      -- what an option holds
       option_term : (t : Term) (f : Factor) (p : ℕ) → TermAt t p → t ≡ Opt f → TermAt (One f) p
       option_term t f p h e =
           let c = L.of_option g plan.rules h.from h.to t h.symbol h.becomes f e in
@@ -154,6 +163,7 @@ module _ (g : Grammar) (plan : Parts) where
           let here = line_at plan h.from.rule 0 kind.Opt ((c.0 ∷ []) ∷ [] ∷ []) (c.0 ∷ []) c.2 refl in
           record { from = record h.from { rule = h.from.rule + 1 }; to = h.to; symbol = c.0; becomes = X.alone _ h.to f c.0 c.3; before = before_first plan planned h.from.rule 0 p (c.0 ∷ []) c.0 here called refl }
 
+      -- the first item of a repetition
       repetition_begins : (t : Term) (f : Factor) (sep : Option Factor) (p : ℕ) → TermAt t p → IsRepetition t f sep → ItemAt g plan f sep p
       repetition_begins t f sep p h (inl e) = list_begins g plan planned h.from h.to f sep h.symbol p (L.of_plus g plan.rules h.from h.to t h.symbol h.becomes f sep e) h.before
       repetition_begins t f sep p h (inr e) =
@@ -162,6 +172,7 @@ module _ (g : Grammar) (plan : Parts) where
           let here = line_at plan h.from.rule 1 kind.Star ([] ∷ (c.0 ∷ []) ∷ []) (c.0 ∷ []) c.2 refl in
           list_begins g plan planned _ h.to f sep c.0 p c.3 (before_first plan planned h.from.rule 1 p (c.0 ∷ []) c.0 here called refl)
 
+      -- where an item ends, its list ends
       item_passed : (f : Factor) (sep : Option Factor) (p e : ℕ) → ItemAt g plan f sep p → IsDerived g plan.text (One f) p e → BehindAt g plan f sep e
       item_passed f sep p e m d =
           let w = flat_of _ m.list.middle (One f) m.list.item p e (X.alone _ m.list.middle f m.list.item m.list.item_becomes) d in

@@ -32,15 +32,18 @@ module _ (g : Grammar) (plan : Parts) (chars : AllByRecursion IsScalar plan.text
   abbrev pub IsFollowed : ℕ → ℕ → Type 0
   IsFollowed n p = (r a dot : ℕ) (syms : List Sym) → IsSlot plan n r a dot → IsLine plan r a syms → Follow g plan (drop dot syms) p
 
+  -- where all alternatives of a rule follow, so do the symbols behind the dot of a first slot
   begun_followed : (rule at n : ℕ) → IsFirstSlot plan n rule → ((a : ℕ) (syms : List Sym) → IsLine plan rule a syms → Follow g plan syms at) → IsFollowed n at
   begun_followed rule at n f c r a dot syms h line =
       let q = same_slot plan n rule f.0 0 r a dot f.2 h in
       let here : IsLine plan rule a syms = subst (λ (z : ℕ). IsLine plan z a syms) (sym q.0) line in
       subst (λ (z : ℕ). Follow g plan (drop z syms) at) q.2 (c a syms here)
 
+  -- the symbol behind the dot is entered, and the rest follow where it ends
   pub next_followed : (n after p : ℕ) (y : Sym) → (h : HasNext plan n after y) → IsFollowed n p → SymbolEntered g plan y p × ((e : ℕ) → IsSpan g plan y p e → Follow g plan (drop (h.2 + 1) h.3) e)
   next_followed n after p y h b = subst (λ zs. Follow g plan zs p) (drop_at h.3 h.2 y h.7) (b h.0 h.1 h.2 h.3 h.4 h.6)
 
+  -- where a tree derives from the symbol, the rest follow
   moved : (n after p e : ℕ) (y : Sym) → HasNext plan n after y → IsFollowed n p → IsSpan g plan y p e → IsFollowed after e
   moved n after p e y h b v r a dot syms at line =
       let q = same_slot plan after h.0 h.1 (h.2 + 1) r a dot h.5 at in
@@ -49,6 +52,7 @@ module _ (g : Grammar) (plan : Parts) (chars : AllByRecursion IsScalar plan.text
 
   module _ (rule0 : Rule) (at0 : slice_get g.rules 0 ≡ Some rule0) where
     mutual
+      -- the alternatives of a called rule follow where it is called
       pub called_follows : (q p : ℕ) → Called plan q p → (a : ℕ) (syms : List Sym) → IsLine plan q a syms → Follow g plan syms p
       called_follows q p start a syms line = named_follows g plan chars x 0 rule0 at0 a syms line 0 (λ terms o. of_first_rule a terms o)
       called_follows q p (by_edge rule at n left e) a syms line =
@@ -61,6 +65,7 @@ module _ (g : Grammar) (plan : Parts) (chars : AllByRecursion IsScalar plan.text
       edge_followed : (q p n l : ℕ) → Edge plan q p n l → IsFollowed n p
       edge_followed q p n l (waiting slot left at after rule mark d h) = desc_followed slot left at d
 
+      -- the symbols behind the dot of each descriptor follow
       pub desc_followed : (n l p : ℕ) → Desc plan n l p → IsFollowed n p
       desc_followed n l p (begun rule at slot c f) = begun_followed rule at slot f (called_follows rule at c)
       desc_followed n l p (arrived slot left pivot right h) = part_followed slot left pivot right h

@@ -39,11 +39,13 @@ module _ (g : Grammar) (plan : Parts) where
   Follow (y ∷ ys) p = SymbolEntered y p × ((e : ℕ) → IsSpan y p e → Follow ys e)
 
   module _ (chars : AllByRecursion IsScalar plan.text) (x : Expanded g plan.rules) where
+    -- a tree of the symbol is lifted to a tree of its term
     derived_of : (a b : Next) (t : Term) (y : Sym) (p e : ℕ) → TermBecomes g plan.rules a t y b → IsSpan y p e → IsDerived g plan.text t p e
     derived_of a b t y p e h d = (lift plan.rules d.0, (lifts g plan.rules plan.slots plan.text chars x d.0).term a b t y p e h d.1)
 
     -- ---- alternatives
 
+    -- the terms of an alternative follow from one that is entered on
     terms_follow : (terms : List Term) (n : ℕ) (a b : Next) (ts : List Term) (ys : List Sym) → TermsBecome g plan.rules a ts ys b → ((m : ℕ) (t : Term) → slice_get ts m ≡ Some t → slice_get terms (n + m) ≡ Some t) →
         (p : ℕ) → PlaceEntered g plan.text terms n p → Follow ys p
     terms_follow terms n a b ts ys (X.no_term _) same p h = tt
@@ -51,7 +53,7 @@ module _ (g : Grammar) (plan : Parts) where
         let o : n + 0 ≡ n = omega arith in
         let here : slice_get terms n ≡ Some t = subst (λ (m : ℕ). slice_get terms m ≡ Some t) o (same 0 t refl) in (
           of_term a c t y p h (at_place terms n p t e here),
-          λ q d. terms_follow terms (suc n) c b us zs k (further) q (next_term terms n p q t e here (derived_of a c t y p q h d)),
+          λ q d. terms_follow terms (suc n) c b us zs k further q (next_term terms n p q t e here (derived_of a c t y p q h d)),
         )
       where
         further : (m : ℕ) (u : Term) → slice_get us m ≡ Some u → slice_get terms (suc n + m) ≡ Some u
@@ -59,6 +61,7 @@ module _ (g : Grammar) (plan : Parts) where
             let w : n + suc m ≡ suc n + m = omega arith in
             subst (λ (z : ℕ). slice_get terms z ≡ Some u) w (same (suc m) u i)
 
+    -- an alternative follows where its terms are entered
     pub line_follows : (a b : Next) (alts : List Alt) (lines : List (List Sym)) → AltsBecome g plan.rules a alts lines b → (n : ℕ) (syms : List Sym) → slice_get lines n ≡ Some syms →
         (p : ℕ) → ((alt : Alt) → slice_get alts n ≡ Some alt → AlternativeEntered g plan.text alt.terms p) → Follow syms p
     line_follows a b alts lines h n syms e p enter =
@@ -67,6 +70,7 @@ module _ (g : Grammar) (plan : Parts) where
 
     -- ---- a rule's alternatives, by what its symbol stands for
 
+    -- an alternative of a written rule
     pub named_follows : (r : ℕ) (rule : Rule) → slice_get g.rules r ≡ Some rule → (a : ℕ) (syms : List Sym) → IsLine plan r a syms → (p : ℕ) → ((terms : List Term) → IsOfRule g r a terms → AlternativeEntered g plan.text terms p) → Follow syms p
     named_follows r rule e a syms line p enter =
         let w = rules_at g plan.rules 0 _ _ g.rules x.walk r rule e in
@@ -74,6 +78,7 @@ module _ (g : Grammar) (plan : Parts) where
         let n = line_of g plan.rules plan.slots plan.text r a kind.Named w.0 syms f line in
         line_follows w.1 w.2 rule.alts w.0 w.4 a syms n p (λ alt i. enter alt.terms (rule, e, (alt, i, refl)))
 
+    -- an alternative of the rule that a call or group became
     factor_follows : (c d : Next) (f : Factor) (z : Sym) → FactorBecomes g plan.rules c f z d → (r : ℕ) (m : Option Mark) → z ≡ sy.Rule r m → (p : ℕ) → Entered g plan.text (One f) p → (a : ℕ) (syms : List Sym) → IsLine plan r a syms → Follow syms p
     factor_follows c d f z (X.called _ mk name q n) r m e p h a syms line =
         let k : r ≡ q = cc e in
@@ -120,6 +125,7 @@ module _ (g : Grammar) (plan : Parts) where
             separator_behind t f pf l.0 i l.1 rep l.2
     list_line c b d f sep y sp k w o whole t rep p h (suc (suc a)) syms e = absurd (cc e)
 
+    -- an alternative of the list that a repetition's items became
     list_follows : (c d : Next) (f : Factor) (sep : Option Factor) (z : Sym) → RepeatBecomes g plan.rules c f sep z d → (r : ℕ) (m : Option Mark) → z ≡ sy.Rule r m → (t : Term) → IsRepetition t f sep → (p : ℕ) → ItemEntered g plan.text t p → (a : ℕ) (syms : List Sym) → IsLine plan r a syms → Follow syms p
     list_follows c d f sep z (X.repeated _ b _ _ _ y sp k w o) r m e t rep p h a syms line =
         let q : r ≡ c.rule = cc e in
@@ -127,6 +133,7 @@ module _ (g : Grammar) (plan : Parts) where
         let n = line_of g plan.rules plan.slots plan.text c.rule a kind.List ((y ∷ []) ∷ next_syms c.rule y sp ∷ []) syms k here in
         list_line c b d f sep y sp k w o (X.repeated c b d f sep y sp k w o) t rep p h a syms n
 
+    -- what an option holds; nothing
     option_line : (c d : Next) (f : Factor) (y : Sym) → FactorBecomes g plan.rules c f y d → (p : ℕ) → Entered g plan.text (Opt f) p → (a : ℕ) (syms : List Sym) → slice_get ((y ∷ []) ∷ [] ∷ []) a ≡ Some syms → Follow syms p
     option_line c d f y w p h zero syms e =
         let q : y ∷ [] ≡ syms = cc e in
@@ -136,6 +143,7 @@ module _ (g : Grammar) (plan : Parts) where
         subst (λ zs. Follow zs p) q tt
     option_line c d f y w p h (suc (suc a)) syms e = absurd (cc e)
 
+    -- nothing; the list
     star_line : (c d : Next) (f : Factor) (sep : Option Factor) (y : Sym) → RepeatBecomes g plan.rules c f sep y d → (p : ℕ) → Entered g plan.text (Star f sep) p → (a : ℕ) (syms : List Sym) → slice_get ([] ∷ (y ∷ []) ∷ []) a ≡ Some syms → Follow syms p
     star_line c d f sep y w p h zero syms e =
         let q : [] ≡ syms = cc e in
@@ -145,6 +153,7 @@ module _ (g : Grammar) (plan : Parts) where
         subst (λ zs. Follow zs p) q (of_list c d (Star f sep) f sep y p w (inr refl) (first_item (Star f sep) f sep p h (inr refl)), λ i v. tt)
     star_line c d f sep y w p h (suc (suc a)) syms e = absurd (cc e)
 
+    -- an alternative of the rule that a term became
     term_follows : (c d : Next) (t : Term) (z : Sym) → TermBecomes g plan.rules c t z d → (r : ℕ) (m : Option Mark) → z ≡ sy.Rule r m → (p : ℕ) → Entered g plan.text t p → (a : ℕ) (syms : List Sym) → IsLine plan r a syms → Follow syms p
     term_follows c d t z (X.alone _ _ f y b) r m e p h a syms line = factor_follows c d f z b r m e p h a syms line
     term_follows c d t z (X.option _ _ f y k b) r m e p h a syms line =
@@ -157,6 +166,7 @@ module _ (g : Grammar) (plan : Parts) where
         let here : IsLine plan c.rule a syms = subst (λ (v : ℕ). IsLine plan v a syms) q line in
         star_line _ d f sep y b p h a syms (line_of g plan.rules plan.slots plan.text c.rule a kind.Star ([] ∷ (y ∷ []) ∷ []) syms k here)
 
+    -- an alternative of the rule that is entered
     pub symbol_follows : (z : Sym) (p : ℕ) → SymbolEntered z p → (r : ℕ) (m : Option Mark) → z ≡ sy.Rule r m → (a : ℕ) (syms : List Sym) → IsLine plan r a syms → Follow syms p
     symbol_follows z p (of_term c d t _ _ w h) r m e a syms line = term_follows c d t z w r m e p h a syms line
     symbol_follows z p (of_list c d t f sep _ _ w rep h) r m e a syms line = list_follows c d f sep z w r m e t rep p h a syms line

@@ -8,4 +8,5 @@ pub mod LastItems
 pub mod ListDescriptors
 pub mod ReachedDots
 pub mod SmallDots
+pub mod SmallEntered
 pub mod SmallLists

@@ -73,6 +73,7 @@ module _ (g : Grammar) (plan : Parts) where
           last = (0, c.0 ∷ [], n.1, here);
         }
 
+    -- the second alternative of the list
     pub next_line : (f : Factor) (sep : Option Factor) (l : ListOf f sep) (syms : List Sym) → next_syms l.from.rule l.item l.separator ≡ syms → IsLine plan l.from.rule 1 syms
     next_line f sep l syms e = line_at plan l.from.rule 1 kind.List ((l.item ∷ []) ∷ next_syms l.from.rule l.item l.separator ∷ []) syms l.flat (ap (λ z. Some z) e)
 

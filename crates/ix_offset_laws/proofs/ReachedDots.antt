@@ -33,6 +33,7 @@ module _ (g : Grammar) (plan : Parts) (chars : AllByRecursion IsScalar plan.text
     edge_reached : (q p n l : ℕ) → Edge plan q p n l → IsZeroOrReached p
     edge_reached q p n l (waiting slot left at after rule mark d h) = desc_reached slot left at d
 
+    -- each descriptor
     pub desc_reached : (n l p : ℕ) → Desc plan n l p → IsZeroOrReached p
     desc_reached n l p (begun rule at slot c f) = called_reached rule at c
     desc_reached n l p (arrived slot left pivot right h) = part_reached slot left pivot right h

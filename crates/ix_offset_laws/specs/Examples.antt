@@ -1,10 +1,12 @@
--- Small plans, for the worked examples of the furthest descriptor.
+-- Small plans and grammars, for the worked examples.
 use Rattle.std.specs.Prelude.{ℕ, List, [], ◌∷◌, codes}
 use Rattle.ix_model.specs.declared.rules.Kind.TheVariants as kind
 use Rattle.ix_model.specs.declared.rules.Rules.{Rules}
 use Rattle.ix_model.specs.declared.rules.Terminal.TheVariants as terminal
 use Rattle.ix_model.specs.Expansion.Parts.{Parts}
 use Rattle.ix_model.specs.Expansion.Numbering.{numbering}
+use Rattle.ix_model.specs.declared.grammar.Grammar.{Grammar}
+use Rattle.ix_examples.specs.SmallGrammars.{grammar, rule, alternative, quoted, call}
 use Rattle.ix_examples.specs.SmallRules.{flat, rules_of, shown, helper, only}
 
 -- the rules of S: "a"++",".
@@ -18,3 +20,14 @@ commas_plan s = record { rules = commas_rules; slots = numbering commas_rules.fl
 -- no rules
 abbrev pub no_rules : List ℕ → Parts
 no_rules s = record { rules = rules_of [] []; slots = []; text = s }
+
+-- S: "a"; "b".
+abbrev pub either : Grammar
+either = grammar (rule (codes "S") (alternative (quoted (codes "a") ∷ []) ∷ alternative (quoted (codes "b") ∷ []) ∷ []) ∷ [])
+
+-- S: A. A: "a". A: "b".
+abbrev pub two_of_a_name : Grammar
+two_of_a_name = grammar (
+    rule (codes "S") (alternative (call (codes "A") ∷ []) ∷ [])
+    ∷ rule (codes "A") (alternative (quoted (codes "a") ∷ []) ∷ [])
+    ∷ rule (codes "A") (alternative (quoted (codes "b") ∷ []) ∷ []) ∷ [])

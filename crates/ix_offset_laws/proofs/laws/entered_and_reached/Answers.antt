@@ -1,0 +1,15 @@
+use Rattle.std.proofs.Common.{codes}
+use Rattle.ix_offset_laws.proofs.SmallEntered.{insertion_entered, empty_reached, of_earlier, of_later}
+use Rattle.ix_offset_laws.proofs.laws.entered_and_reached.Goals as goal
+
+pub returns-clause-insertion : goal.returns-clause-insertion
+returns-clause-insertion c = insertion_entered
+
+pub returns-clause-empty : goal.returns-clause-empty
+returns-clause-empty c = empty_reached
+
+pub returns-clause-earlier : goal.returns-clause-earlier
+returns-clause-earlier c = of_earlier (codes "b")
+
+pub returns-clause-later : goal.returns-clause-later
+returns-clause-later c = of_later (codes "b")
