@@ -9,4 +9,6 @@ pub mod ListDescriptors
 pub mod ReachedDots
 pub mod SmallDots
 pub mod SmallEntered
+pub mod SmallInsertions
+pub mod SmallItems
 pub mod SmallLists

@@ -2,7 +2,7 @@
 use Rattle.std.proofs.Common.{refl, arith, ℕ, List, [], ◌∷◌, Some, None, codes}
 use mathlib.Core.Logic.{inl, inr}
 use Rattle.ix_model.specs.declared.grammar.Grammar.{Grammar}
-use Rattle.ix_model.specs.declared.grammar.Term.{Term, One, Opt, Plus}
+use Rattle.ix_model.specs.declared.grammar.Term.{Term, One, Opt}
 use Rattle.ix_model.specs.declared.grammar.Factor.{Factor}
 use Rattle.ix_model.specs.Matching.Terminals.{StandsAt}
 use Rattle.ix_model.specs.Derivations.Trees.{text}
@@ -10,7 +10,7 @@ use Rattle.ix_model.specs.Derivations.Entered.{IsDerived, AlternativeEntered, of
 use Rattle.ix_model.specs.Derivations.Offset.{IsReached}
 use Rattle.ix_examples.specs.SmallGrammars.{literal, quoted, inserted, call, of_term, of_terms, a_or_b}
 use Rattle.ix_examples.specs.SmallRules.{a_list}
-use Rattle.ix_offset_laws.specs.Examples.{either, two_of_a_name}
+use Rattle.ix_offset_laws.specs.Examples.{a_plus, either, two_of_a_name}
 
 -- the first term of an alternative is entered where that is
 first_of : (g : Grammar) (s : List ℕ) (t : Term) (ts : List Term) (i : ℕ) → AlternativeEntered g s (t ∷ ts) i → Entered g s t i
@@ -62,9 +62,6 @@ a = literal (codes "a")
 
 abbrev comma : Factor
 comma = literal (codes ",")
-
-abbrev a_plus : Term
-a_plus = Plus a None
 
 pub next_of_plus : Entered (of_term a_plus) (codes "aa") (quoted (codes "a")) 1
 next_of_plus = as_item a_plus a None 1 (next_item a_plus a 0 1 (first_item a_plus a None 0 (only_term a_plus (codes "aa")) (inl refl)) (inl refl) (derived_of (of_term a_plus) (codes "aa") 97 0 1 (refl, omega arith, refl))) (inl refl)

@@ -1,12 +1,13 @@
 -- Small plans and grammars, for the worked examples.
-use Rattle.std.specs.Prelude.{ℕ, List, [], ◌∷◌, codes}
+use Rattle.std.specs.Prelude.{ℕ, List, [], ◌∷◌, None, codes}
 use Rattle.ix_model.specs.declared.rules.Kind.TheVariants as kind
 use Rattle.ix_model.specs.declared.rules.Rules.{Rules}
 use Rattle.ix_model.specs.declared.rules.Terminal.TheVariants as terminal
 use Rattle.ix_model.specs.Expansion.Parts.{Parts}
 use Rattle.ix_model.specs.Expansion.Numbering.{numbering}
 use Rattle.ix_model.specs.declared.grammar.Grammar.{Grammar}
-use Rattle.ix_examples.specs.SmallGrammars.{grammar, rule, alternative, quoted, call}
+use Rattle.ix_model.specs.declared.grammar.Term.{Term, Plus}
+use Rattle.ix_examples.specs.SmallGrammars.{grammar, rule, alternative, literal, quoted, call}
 use Rattle.ix_examples.specs.SmallRules.{flat, rules_of, shown, helper, only}
 
 -- the rules of S: "a"++",".
@@ -31,3 +32,13 @@ two_of_a_name = grammar (
     rule (codes "S") (alternative (call (codes "A") ∷ []) ∷ [])
     ∷ rule (codes "A") (alternative (quoted (codes "a") ∷ []) ∷ [])
     ∷ rule (codes "A") (alternative (quoted (codes "b") ∷ []) ∷ []) ∷ [])
+
+-- "a"+
+abbrev pub a_plus : Term
+a_plus = Plus (literal (codes "a")) None
+
+-- of S: "a"+. for a text: slots 0 and 1 are of S, 2 and 3 of the list that is one item, 4 to 6 of the list that is a list and an item
+abbrev pub plus_plan : List ℕ → Parts
+plus_plan s =
+    let flats = only (helper 1) ∷ flat kind.List ((shown 0 ∷ []) ∷ (helper 1 ∷ shown 0 ∷ []) ∷ []) ∷ [] in
+    record { rules = rules_of flats (terminal.Lit (codes "a") ∷ []); slots = numbering flats; text = s }

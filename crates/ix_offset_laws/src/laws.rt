@@ -1,13 +1,13 @@
 //! Laws of the furthest descriptor, and worked examples of it. The contract is the law; the body is empty.
-ghost use Rattle.std.specs.Prelude.{[], None, codes};
-ghost use Rattle.ix_model.specs.declared.grammar.Term.{One, Opt, Plus};
+ghost use Rattle.std.specs.Prelude.{[], codes};
+ghost use Rattle.ix_model.specs.declared.grammar.Term.{One, Opt};
 ghost use Rattle.ix_model.specs.Derivations.Entered.{Entered};
 ghost use Rattle.ix_model.specs.Derivations.Offset.{IsReached, Offset};
 ghost use Rattle.ix_model.specs.Expansion.Planned.{IsPlanned, IsPlanOf};
 ghost use Rattle.ix_examples.specs.SmallGrammars.{literal, quoted, inserted, of_term, of_terms, a_or_b, commas};
 ghost use Rattle.ix_examples.specs.SmallRules.{a_list};
 ghost use Rattle.ix_examples.specs.SmallPlans.{only_a};
-ghost use Rattle.ix_offset_laws.specs.Examples.{commas_plan, no_rules, either, two_of_a_name};
+ghost use Rattle.ix_offset_laws.specs.Examples.{commas_plan, no_rules, a_plus, either, two_of_a_name};
 ghost use Rattle.ix_offset_laws.specs.Furthest.{HasDotAt, Furthest};
 ghost use Rattle.ix_offset_laws.specs.OffsetLaws.{DescriptorsAreReached, ReachedHaveDescriptors, FurthestIsOffset, FurthestIsOne};
 
@@ -60,10 +60,13 @@ pub fn missing_separator()
     ensures offset { Offset (of_term commas) (codes "aa") 1 }
 {}
 
-/// An insertion is entered, too, and an empty literal reaches where it begins; a call enters each rule of its name.
+/// An insertion is entered and reaches nothing, an empty literal reaches where it begins, and no item is entered behind
+/// what is none; a call enters each rule of its name.
 pub fn entered_and_reached()
     ensures insertion { Entered (of_term (inserted (codes "x"))) [] (inserted (codes "x")) 0 }
     ensures empty { IsReached (of_term (quoted [])) [] 0 }
+    ensures not_inserted { ¬ (IsReached (of_term (inserted (codes "x"))) [] 0) }
+    ensures not_behind_others { Offset (of_term a_plus) (codes "ba") 0 }
     ensures earlier { Entered two_of_a_name (codes "b") (quoted (codes "a")) 0 }
     ensures later { Entered two_of_a_name (codes "b") (quoted (codes "b")) 0 }
 {}
@@ -74,6 +77,6 @@ pub fn entered_later()
     ensures alternative { Entered either (codes "b") (quoted (codes "b")) 0 }
     ensures group { Entered (of_terms (quoted (codes "c")) (One a_or_b)) (codes "ca") (quoted (codes "a")) 1 }
     ensures option { Entered (of_terms (quoted (codes "c")) (Opt (literal (codes "a")))) (codes "c") (quoted (codes "a")) 1 }
-    ensures item_of_plus { Entered (of_term (Plus (literal (codes "a")) None)) (codes "aa") (quoted (codes "a")) 1 }
+    ensures item_of_plus { Entered (of_term a_plus) (codes "aa") (quoted (codes "a")) 1 }
     ensures item_of_star { Entered (of_term a_list) (codes "a,") (quoted (codes "a")) 2 }
 {}
