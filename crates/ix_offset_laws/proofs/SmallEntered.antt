@@ -38,16 +38,16 @@ module _ (s : List ℕ) where
 
 -- ---- behind the front of a text
 
--- a literal of one character derives where it stands
-derived_of : (g : Grammar) (s : List ℕ) (c i j : ℕ) → StandsAt s (c ∷ []) i j → IsDerived g s (quoted (c ∷ [])) i j
-derived_of g s c i j h = (text i j, (refl, refl, inl (_, _, refl, h)))
+-- a literal derives where it stands
+derived_of : (g : Grammar) (s cs : List ℕ) (i j : ℕ) → StandsAt s cs i j → IsDerived g s (quoted cs) i j
+derived_of g s cs i j h = (text i j, (refl, refl, inl (_, _, refl, h)))
 
 pub later_alternative : Entered either (codes "b") (quoted (codes "b")) 0
 later_alternative = first_of either (codes "b") (quoted (codes "b")) [] 0 (of_first_rule 1 _ (_, refl, (_, refl, refl)))
 
 -- the second of two terms is entered where the first one ends
 second_term : (t : Term) (s : List ℕ) → StandsAt s (codes "c") 0 1 → Entered (of_terms (quoted (codes "c")) t) s t 1
-second_term t s h = at_place _ 1 1 t (next_term _ 0 0 1 (quoted (codes "c")) (first_term _ 0 (of_first_rule 0 _ (_, refl, (_, refl, refl)))) refl (derived_of (of_terms (quoted (codes "c")) t) s 99 0 1 h)) refl
+second_term t s h = at_place _ 1 1 t (next_term _ 0 0 1 (quoted (codes "c")) (first_term _ 0 (of_first_rule 0 _ (_, refl, (_, refl, refl)))) refl (derived_of (of_terms (quoted (codes "c")) t) s (codes "c") 0 1 h)) refl
 
 pub later_group : Entered (of_terms (quoted (codes "c")) (One a_or_b)) (codes "ca") (quoted (codes "a")) 1
 later_group = first_of _ (codes "ca") (quoted (codes "a")) [] 1 (of_group (One a_or_b) 1 0 _ (second_term (One a_or_b) (codes "ca") (refl, omega arith, refl)) (_, refl, (_, refl, refl)))
@@ -64,10 +64,10 @@ abbrev comma : Factor
 comma = literal (codes ",")
 
 pub next_of_plus : Entered (of_term a_plus) (codes "aa") (quoted (codes "a")) 1
-next_of_plus = as_item a_plus a None 1 (next_item a_plus a 0 1 (first_item a_plus a None 0 (only_term a_plus (codes "aa")) (inl refl)) (inl refl) (derived_of (of_term a_plus) (codes "aa") 97 0 1 (refl, omega arith, refl))) (inl refl)
+next_of_plus = as_item a_plus a None 1 (next_item a_plus a 0 1 (first_item a_plus a None 0 (only_term a_plus (codes "aa")) (inl refl)) (inl refl) (derived_of (of_term a_plus) (codes "aa") (codes "a") 0 1 (refl, omega arith, refl))) (inl refl)
 
 separator_there : SeparatorEntered (of_term a_list) (codes "a,") a_list 1
-separator_there = separator_behind a_list a comma 0 1 (first_item a_list a (Some comma) 0 (only_term a_list (codes "a,")) (inr refl)) (inr refl) (derived_of (of_term a_list) (codes "a,") 97 0 1 (refl, omega arith, refl))
+separator_there = separator_behind a_list a comma 0 1 (first_item a_list a (Some comma) 0 (only_term a_list (codes "a,")) (inr refl)) (inr refl) (derived_of (of_term a_list) (codes "a,") (codes "a") 0 1 (refl, omega arith, refl))
 
 pub behind_separator : Entered (of_term a_list) (codes "a,") (quoted (codes "a")) 2
-behind_separator = as_item a_list a (Some comma) 2 (item_behind a_list a comma 1 2 separator_there (inr refl) (derived_of (of_term a_list) (codes "a,") 44 1 2 (refl, omega arith, refl))) (inr refl)
+behind_separator = as_item a_list a (Some comma) 2 (item_behind a_list a comma 1 2 separator_there (inr refl) (derived_of (of_term a_list) (codes "a,") (codes ",") 1 2 (refl, omega arith, refl))) (inr refl)

@@ -60,23 +60,29 @@ pub fn missing_separator()
     ensures offset { Offset (of_term commas) (codes "aa") 1 }
 {}
 
-/// An insertion is entered and reaches nothing, an empty literal reaches where it begins, and no item is entered behind
-/// what is none; a call enters each rule of its name.
-pub fn entered_and_reached()
-    ensures insertion { Entered (of_term (inserted (codes "x"))) [] (inserted (codes "x")) 0 }
+/// An insertion is entered and reaches nothing; an empty literal reaches where it begins.
+pub fn insertions_and_empty_literals()
+    ensures entered { Entered (of_term (inserted (codes "x"))) [] (inserted (codes "x")) 0 }
+    ensures not_reached { ¬ (IsReached (of_term (inserted (codes "x"))) [] 0) }
     ensures empty { IsReached (of_term (quoted [])) [] 0 }
-    ensures not_inserted { ¬ (IsReached (of_term (inserted (codes "x"))) [] 0) }
-    ensures not_behind_others { Offset (of_term a_plus) (codes "ba") 0 }
+{}
+
+/// A call enters each rule of its name, where several rules have it.
+pub fn rules_of_one_name()
     ensures earlier { Entered two_of_a_name (codes "b") (quoted (codes "a")) 0 }
     ensures later { Entered two_of_a_name (codes "b") (quoted (codes "b")) 0 }
 {}
 
-/// A later alternative of the first rule, what is in a group or an option behind the front of the text, and later items
-/// are entered, each of them with no other way to come there.
+/// A later alternative of the first rule is entered at the front, and what a group or an option holds where that is.
 pub fn entered_later()
     ensures alternative { Entered either (codes "b") (quoted (codes "b")) 0 }
     ensures group { Entered (of_terms (quoted (codes "c")) (One a_or_b)) (codes "ca") (quoted (codes "a")) 1 }
     ensures option { Entered (of_terms (quoted (codes "c")) (Opt (literal (codes "a")))) (codes "c") (quoted (codes "a")) 1 }
-    ensures item_of_plus { Entered (of_term a_plus) (codes "aa") (quoted (codes "a")) 1 }
-    ensures item_of_star { Entered (of_term a_list) (codes "a,") (quoted (codes "a")) 2 }
+{}
+
+/// Items of either repetition are entered behind items, with a separator or without, and nowhere else.
+pub fn items_behind_items()
+    ensures item { Entered (of_term a_plus) (codes "aa") (quoted (codes "a")) 1 }
+    ensures separated { Entered (of_term a_list) (codes "a,") (quoted (codes "a")) 2 }
+    ensures nowhere_else { Offset (of_term a_plus) (codes "ba") 0 }
 {}
