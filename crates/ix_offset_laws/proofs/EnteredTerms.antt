@@ -40,8 +40,8 @@ module _ (g : Grammar) (plan : Parts) where
     pub becomes : TermBecomes g plan.rules from t symbol to
     pub before : Before plan symbol p
 
-  -- a rule that is called at p has an alternative that these terms became
-  pub record AlternativeAt (terms : List Term) (p : ℕ) : Type 0 where
+  -- an alternative of a numbered rule that these terms became
+  pub record LineOf (terms : List Term) : Type 0 where
     pub rule : ℕ
     pub alt : ℕ
     pub syms : List Sym
@@ -49,20 +49,18 @@ module _ (g : Grammar) (plan : Parts) where
     pub to : Next
     pub line : IsLine plan rule alt syms
     pub becomes : TermsBecome g plan.rules from terms syms to
-    pub called : Called plan rule p
 
-  -- an alternative that these terms became has a descriptor at p with its dot before symbol n
+  -- these terms became an alternative of a rule that is called at p
+  pub record AlternativeAt (terms : List Term) (p : ℕ) : Type 0 where
+    pub place : LineOf terms
+    pub called : Called plan place.rule p
+
+  -- these terms became an alternative that has a descriptor at p with its dot before symbol n
   pub record PlaceAt (terms : List Term) (n p : ℕ) : Type 0 where
-    pub rule : ℕ
-    pub alt : ℕ
-    pub syms : List Sym
-    pub from : Next
-    pub to : Next
-    pub line : IsLine plan rule alt syms
-    pub becomes : TermsBecome g plan.rules from terms syms to
+    pub place : LineOf terms
     pub slot : ℕ
     pub left : ℕ
-    pub at : IsSlot plan slot rule alt n
+    pub at : IsSlot plan slot place.rule place.alt n
     pub desc : Desc plan slot left p
 
   module _ (planned : IsPlanned plan) where
@@ -97,7 +95,10 @@ module _ (g : Grammar) (plan : Parts) where
           let w = rules_at g plan.rules 0 _ _ g.rules x.walk r rule e in
           let f : HasFlat plan.rules r kind.Named w.0 = subst (λ (z : ℕ). HasFlat plan.rules z kind.Named w.0) (omega arith) w.3 in
           let m = to_alt g plan.rules w.1 w.2 rule.alts w.0 w.4 a alt i in
-          record { rule = r; alt = a; syms = m.0; from = m.1; to = m.2; line = line_at plan r a kind.Named w.0 m.0 f m.3; becomes = subst (λ ts. TermsBecome g plan.rules m.1 ts m.0 m.2) same m.4; called = c }
+          record {
+            place = record { rule = r; alt = a; syms = m.0; from = m.1; to = m.2; line = line_at plan r a kind.Named w.0 m.0 f m.3; becomes = subst (λ ts. TermsBecome g plan.rules m.1 ts m.0 m.2) same m.4 };
+            called = c;
+          }
 
       -- each alternative of a rule whose call is entered
       called_alternative : (t : Term) (p r a : ℕ) (terms : List Term) → TermAt t p → Calls g t r → IsOfRule g r a terms → AlternativeAt terms p
@@ -112,48 +113,36 @@ module _ (g : Grammar) (plan : Parts) where
           let c = L.of_group g plan.rules h.from h.to (Group alts) h.symbol (of_one g plan.rules h.from h.to t h.symbol h.becomes (Group alts) e) alts refl in
           let m = to_alt g plan.rules _ h.to alts c.0 c.3 a alt i in
           record {
-            rule = h.from.rule;
-            alt = a;
-            syms = m.0;
-            from = m.1;
-            to = m.2;
-            line = line_at plan h.from.rule a kind.Group c.0 m.0 c.2 m.3;
-            becomes = subst (λ ts. TermsBecome g plan.rules m.1 ts m.0 m.2) same m.4;
+            place = record { rule = h.from.rule; alt = a; syms = m.0; from = m.1; to = m.2; line = line_at plan h.from.rule a kind.Group c.0 m.0 c.2 m.3; becomes = subst (λ ts. TermsBecome g plan.rules m.1 ts m.0 m.2) same m.4 };
             called = called_before plan h.from.rule None p (subst (λ z. Before plan z p) c.1 h.before);
           }
 
       -- the first term of an alternative
       place_first : (terms : List Term) (p : ℕ) → AlternativeAt terms p → PlaceAt terms 0 p
       place_first terms p h =
-          let v = first_desc plan planned h.rule h.alt p h.syms h.line h.called in
-          record { rule = h.rule; alt = h.alt; syms = h.syms; from = h.from; to = h.to; line = h.line; becomes = h.becomes; slot = v.0; left = p; at = v.1; desc = v.2 }
+          let v = first_desc plan planned h.place.rule h.place.alt p h.place.syms h.place.line h.called in
+          record { place = h.place; slot = v.0; left = p; at = v.1; desc = v.2 }
 
       -- the next term, where one ends
       place_next : (terms : List Term) (n p e : ℕ) (t : Term) → PlaceAt terms n p → slice_get terms n ≡ Some t → IsDerived g plan.text t p e → PlaceAt terms (suc n) e
       place_next terms n p e t h i d =
-          let m = to_term g plan.rules h.from h.to terms h.syms h.becomes n t i in
-          let v = after_slot plan planned h.slot h.rule h.alt n h.syms m.0 h.line h.at m.3 in
+          let m = to_term g plan.rules h.place.from h.place.to terms h.place.syms h.place.becomes n t i in
+          let v = after_slot plan planned h.slot h.place.rule h.place.alt n h.place.syms m.0 h.place.line h.at m.3 in
           let w = flat_of m.1 m.2 t m.0 p e m.4 d in
           let o : n + 1 ≡ suc n = omega arith in
           record {
-            rule = h.rule;
-            alt = h.alt;
-            syms = h.syms;
-            from = h.from;
-            to = h.to;
-            line = h.line;
-            becomes = h.becomes;
+            place = h.place;
             slot = v.0;
             left = h.left;
-            at = subst (λ (z : ℕ). IsSlot plan v.0 h.rule h.alt z) o v.1;
+            at = subst (λ (z : ℕ). IsSlot plan v.0 h.place.rule h.place.alt z) o v.1;
             desc = passed plan planned h.slot h.left v.0 p e m.0 w.0 h.desc v.2 w.1;
           }
 
       -- the term at a place, where there is one
       place_term : (terms : List Term) (n p : ℕ) (t : Term) → PlaceAt terms n p → slice_get terms n ≡ Some t → TermAt t p
       place_term terms n p t h i =
-          let m = to_term g plan.rules h.from h.to terms h.syms h.becomes n t i in
-          record { from = m.1; to = m.2; symbol = m.0; becomes = m.4; before = before_at plan planned h.slot h.left p h.rule h.alt n h.syms m.0 h.line h.at m.3 h.desc }
+          let m = to_term g plan.rules h.place.from h.place.to terms h.place.syms h.place.becomes n t i in
+          record { from = m.1; to = m.2; symbol = m.0; becomes = m.4; before = before_at plan planned h.slot h.left p h.place.rule h.place.alt n h.place.syms m.0 h.place.line h.at m.3 h.desc }
 
       -- what an option holds
       option_term : (t : Term) (f : Factor) (p : ℕ) → TermAt t p → t ≡ Opt f → TermAt (One f) p

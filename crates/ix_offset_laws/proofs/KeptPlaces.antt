@@ -10,6 +10,10 @@ use Rattle.ix_model.specs.Expansion.FlatDerives.{IsTerminal}
 use Rattle.ix_model.specs.Closure.Closed.{Called, start, by_edge, Desc, begun, arrived, waiting, End, ended, Part, empty, scanned, inserted, joined}
 use Rattle.ix_model.proofs.SlotReaders.{first_reads, last_reads, next_reads}
 
+-- at the front of the text
+abbrev pub AtFront : ℕ → ℕ → Type 0
+AtFront n p = p ≡ 0
+
 module _ (plan : Parts) (IsCall IsDot IsEnd : ℕ → ℕ → Type 0) where
   -- each step of the closure keeps to these calls, dots and ends
   pub record AreKept : Type 0 where

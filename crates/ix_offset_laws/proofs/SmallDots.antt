@@ -16,13 +16,9 @@ use Rattle.ix_examples.proofs.SmallPlans.{literal_stands, planned_b}
 use Rattle.ix_examples.proofs.SmallClosures.{desc_0}
 use Rattle.ix_offset_laws.specs.Examples.{no_rules}
 use Rattle.ix_offset_laws.specs.Furthest.{HasDotAt, Furthest}
-use Rattle.ix_offset_laws.proofs.KeptPlaces.{AreKept, desc_kept}
+use Rattle.ix_offset_laws.proofs.KeptPlaces.{AtFront, AreKept, desc_kept}
 
 -- ---- S: "a".
-
--- S is called at 0
-abbrev IsStart : ℕ → ℕ → Type 0
-IsStart r p = p ≡ 0
 
 -- the ends don't matter, since nothing is behind a rule
 abbrev AnyEnd : ℕ → ℕ → Type 0
@@ -35,7 +31,7 @@ module _ (text : List ℕ) where
   IsDotOfA (suc zero) p = StandsAt text (codes "a") 0 p
   IsDotOfA (suc (suc s)) p = ⊥
 
-  kept_a : AreKept (only_a text) IsStart IsDotOfA AnyEnd
+  kept_a : AreKept (only_a text) AtFront IsDotOfA AnyEnd
   kept_a = record {
     start = refl;
     begin = begins;
@@ -74,7 +70,7 @@ module _ (text : List ℕ) where
       joins (suc (suc s)) r p e m n d u = absurd d
 
   dots_of_a : IsPlanned (only_a text) → (p : ℕ) → HasDotAt (only_a text) p → (p ≡ 0) ⊎ StandsAt text (codes "a") 0 p
-  dots_of_a planned p (s, l, d) = by_slot s (desc_kept (only_a text) IsStart IsDotOfA AnyEnd planned kept_a s l p d)
+  dots_of_a planned p (s, l, d) = by_slot s (desc_kept (only_a text) AtFront IsDotOfA AnyEnd planned kept_a s l p d)
     where
       by_slot : (n : ℕ) → IsDotOfA n p → (p ≡ 0) ⊎ StandsAt text (codes "a") 0 p
       by_slot zero k = inl k

@@ -16,7 +16,7 @@ use Rattle.ix_examples.proofs.Inversions.{only_rule}
 use Rattle.ix_examples.proofs.SmallTexts.{first}
 use Rattle.ix_offset_laws.specs.Examples.{a_plus, plus_plan}
 use Rattle.ix_offset_laws.specs.Furthest.{HasDotAt, Furthest}
-use Rattle.ix_offset_laws.proofs.KeptPlaces.{AreKept, desc_kept}
+use Rattle.ix_offset_laws.proofs.KeptPlaces.{AtFront, AreKept, desc_kept}
 use Rattle.ix_offset_laws.proofs.FurthestOffset.{offset_of}
 
 abbrev on_ba : Parts
@@ -42,11 +42,7 @@ plan_of_plus = record { text = (refl, (refl, tt)); unique = λ r q name h k. onl
 planned_plus : IsPlanned on_ba
 planned_plus = search rules
 
--- all calls, dots and ends are at the front
-abbrev IsFront : ℕ → ℕ → Type 0
-IsFront n p = p ≡ 0
-
--- the only terminal does not stand there
+-- the only terminal does not stand at the front
 no_match : (x : Sym) (p e : ℕ) → p ≡ 0 → IsTerminal on_ba x p e → ⊥
 no_match x p e z (zero, shown, terminal, y, at, m) =
     let a : terminal ≡ Lit (codes "a") = sym (cc at) in
@@ -54,7 +50,8 @@ no_match x p e z (zero, shown, terminal, y, at, m) =
     omega (arith, ap first stands.2)
 no_match x p e z (suc n, shown, terminal, y, at, m) = cc at
 
-kept_at_front : AreKept on_ba IsFront IsFront IsFront
+-- so all calls, dots and ends are at the front
+kept_at_front : AreKept on_ba AtFront AtFront AtFront
 kept_at_front = record {
   start = refl;
   begin = λ s r p l h d c. c;
@@ -66,7 +63,7 @@ kept_at_front = record {
 }
 
 at_most_0 : (p : ℕ) → HasDotAt on_ba p → p ≤ 0
-at_most_0 p (s, l, d) = omega (arith, desc_kept on_ba IsFront IsFront IsFront planned_plus kept_at_front s l p d)
+at_most_0 p (s, l, d) = omega (arith, desc_kept on_ba AtFront AtFront AtFront planned_plus kept_at_front s l p d)
 
 furthest_of_ba : Furthest on_ba 0
 furthest_of_ba = (inr refl, at_most_0)

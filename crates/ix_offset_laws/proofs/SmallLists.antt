@@ -21,7 +21,7 @@ use Rattle.ix_examples.proofs.SmallTexts.{first}
 use Rattle.ix_examples.proofs.SmallPlans.{literal_stands}
 use Rattle.ix_offset_laws.specs.Examples.{commas_rules, commas_plan}
 use Rattle.ix_offset_laws.specs.Furthest.{HasDotAt, Furthest}
-use Rattle.ix_offset_laws.proofs.KeptPlaces.{AreKept, desc_kept}
+use Rattle.ix_offset_laws.proofs.KeptPlaces.{AtFront, AreKept, desc_kept}
 use Rattle.ix_offset_laws.proofs.FurthestOffset.{offset_of}
 
 -- ---- the premises of the laws
@@ -51,11 +51,7 @@ planned_commas = search rules
 abbrev on_aa : Parts
 on_aa = commas_plan (codes "aa")
 
--- S and its list are called at 0
-abbrev IsStart : ℕ → ℕ → Type 0
-IsStart r p = p ≡ 0
-
--- and they end behind the first item
+-- S and its list are called at the front, and end behind the first item
 abbrev IsFirstEnd : ℕ → ℕ → Type 0
 IsFirstEnd r p = p ≡ 1
 
@@ -128,11 +124,11 @@ joins (suc (suc (suc (suc zero)))) r p e m n d u = u
 joins (suc (suc (suc (suc (suc zero))))) r p e m n d u = absurd (cc n)
 joins (suc (suc (suc (suc (suc (suc s)))))) r p e m n d u = absurd d
 
-kept_commas : AreKept on_aa IsStart IsDotOfList IsFirstEnd
+kept_commas : AreKept on_aa AtFront IsDotOfList IsFirstEnd
 kept_commas = record { start = refl; begin = begins; call = calls; end = ends; scan = scans; insert = inserts; join = joins }
 
 at_most_1 : (p : ℕ) → HasDotAt on_aa p → p ≤ 1
-at_most_1 p (s, l, d) = by_slot s (desc_kept on_aa IsStart IsDotOfList IsFirstEnd planned_commas kept_commas s l p d)
+at_most_1 p (s, l, d) = by_slot s (desc_kept on_aa AtFront IsDotOfList IsFirstEnd planned_commas kept_commas s l p d)
   where
     by_slot : (n : ℕ) → IsDotOfList n p → p ≤ 1
     by_slot zero k = omega (arith, k)
