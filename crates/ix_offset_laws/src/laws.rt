@@ -1,4 +1,4 @@
-//! Laws of the furthest descriptor, and worked examples of it. The contract is the law; the body is empty.
+//! Laws of the furthest descriptor, and worked examples of it and of what is entered. The contract is the law; the body is empty.
 ghost use Rattle.std.specs.Prelude.{[], codes};
 ghost use Rattle.ix_model.specs.declared.grammar.Term.{One, Opt};
 ghost use Rattle.ix_model.specs.Derivations.Entered.{Entered};
@@ -21,8 +21,8 @@ pub fn reached_have_descriptors()
     ensures { ReachedHaveDescriptors }
 {}
 
-/// The furthest position of a descriptor is the offset of the text. A grammar that conforms and a text of characters
-/// have the premises, by the law of the plan of a conforming grammar.
+/// The furthest position of a descriptor is the offset of the text. Both premises hold of a plan that is made of the
+/// rules of a conforming grammar and a text of characters.
 pub fn furthest_is_offset()
     ensures { FurthestIsOffset }
 {}
