@@ -1,0 +1,14 @@
+pub mod Descriptors
+pub mod EnteredTerms
+pub mod FollowedDots
+pub mod Following
+pub mod FurthestOffset
+pub mod KeptPlaces
+pub mod LastItems
+pub mod ListDescriptors
+pub mod ReachedDots
+pub mod SmallDots
+pub mod SmallEntered
+pub mod SmallInsertions
+pub mod SmallItems
+pub mod SmallLists
