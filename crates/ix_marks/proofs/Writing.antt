@@ -8,13 +8,16 @@ use Rattle.ix_model.specs.Documents.Gives.{attribute, element, run, Givens, noth
 use Rattle.ix_model.specs.Documents.Xml.{content_bytes, name_bytes, attribute_bytes, attributes_bytes, element_bytes, contents_bytes, state_bytes, xml}
 use Rattle.ix_model.specs.declared.state.State.{State}
 use Rattle.ix_model.specs.Documents.Dyn.{element_count, character_count}
-use Rattle.ix_marks.specs.Pieces.{Piece, closed, characters, attributes, pieces}
+use Rattle.ix_marks.specs.Pieces.{Piece, end_tag, characters, attributes, pieces}
 use Rattle.ix_marks.specs.declared.item.Item.{Item}
 use Rattle.ix_marks.specs.declared.item.Item.TheVariants.{Begin, Close, Chars}
 use Rattle.ix_marks.specs.declared.item.Attr.{Attr}
-use Rattle.ix_marks.specs.Marks.{range_of, piece_of, IsItemIn}
-use Rattle.ix_marks.specs.Told.{IsSolid, written, PiecesAreWritten, RunsAreSolid, document, DocumentIsWritten}
-use Rattle.ix_marks.proofs.Ranges.{each-left, each-right}
+use Rattle.ix_model.proofs.AllOf.{all_left, all_right}
+use Rattle.ix_marks.specs.InRange.{IsItemIn}
+use Rattle.ix_marks.specs.Laws.{PiecesAreWritten, RunsAreSolid, DocumentIsWritten}
+use Rattle.ix_marks.specs.Meaning.{piece_of}
+use Rattle.ix_marks.specs.Ranges.{range_of}
+use Rattle.ix_marks.specs.Writing.{attributes_written, IsSolid, written, document}
 
 first_of_list : (xs : List ℕ) → 1 ≤ length xs → (b : ℕ) × (bs : List ℕ) × (xs ≡ b ∷ bs)
 first_of_list [] h = absurd (omega arith)
@@ -30,7 +33,7 @@ content_some c =
     (λ e. cond_both (c == 62) _ _ (λ (xs : List ℕ). 1 ≤ length xs) (λ e. omega arith)
     (λ e. cond_both (c == 13) _ _ (λ (xs : List ℕ). 1 ≤ length xs) (λ e. omega arith) (λ e. encode_some c))))
 
-told_attributes : (gs : Givens) → attributes_bytes gs ≡ flat_map (λ (a : List ℕ × List ℕ). attribute_bytes a.0 a.1) (attributes gs)
+told_attributes : (gs : Givens) → attributes_bytes gs ≡ attributes_written (attributes gs)
 told_attributes nothing = refl
 told_attributes (followed (attribute name val) gs) = ap (λ z. attribute_bytes name val ++ z) (told_attributes gs)
 told_attributes (followed (element name inner) gs) = told_attributes gs
@@ -60,15 +63,15 @@ regroup_short : (l n a e w : List ℕ) → l ++ (n ++ (a ++ (e ++ w))) ≡ (l ++
 regroup_short l n a e w = sym (simp append_assoc)
 
 element_written : (name ats : List ℕ) (inner : Givens) (qs : List Piece) → Starts inner → ((rs : List Piece) → written false (pieces inner ++ rs) ≡ contents_bytes inner ++ written false rs) →
-    codes "<" ++ (name_bytes name ++ (ats ++ written true (pieces inner ++ (closed name ∷ qs)))) ≡ element_bytes name ats (contents_bytes inner) ++ written false qs
+    codes "<" ++ (name_bytes name ++ (ats ++ written true (pieces inner ++ (end_tag name ∷ qs)))) ≡ element_bytes name ats (contents_bytes inner) ++ written false qs
 element_written name ats inner qs (inl h) k =
-    ap (λ (z : List Piece). codes "<" ++ (name_bytes name ++ (ats ++ written true (z ++ (closed name ∷ qs))))) h.0
+    ap (λ (z : List Piece). codes "<" ++ (name_bytes name ++ (ats ++ written true (z ++ (end_tag name ∷ qs))))) h.0
     ∙ regroup_short (codes "<") (name_bytes name) ats (codes "/>") (written false qs)
     ∙ ap (λ z. element_bytes name ats z ++ written false qs) (sym h.1)
 element_written name ats inner qs (inr h) k =
     let f = first_of_list (contents_bytes inner) h.0 in
-    ap (λ z. codes "<" ++ (name_bytes name ++ (ats ++ z))) (h.1 (closed name ∷ qs))
-    ∙ ap (λ z. codes "<" ++ (name_bytes name ++ (ats ++ (codes ">" ++ z)))) (k (closed name ∷ qs) ∙ ap (λ z. z ++ written false (closed name ∷ qs)) f.2)
+    ap (λ z. codes "<" ++ (name_bytes name ++ (ats ++ z))) (h.1 (end_tag name ∷ qs))
+    ∙ ap (λ z. codes "<" ++ (name_bytes name ++ (ats ++ (codes ">" ++ z)))) (k (end_tag name ∷ qs) ∙ ap (λ z. z ++ written false (end_tag name ∷ qs)) f.2)
     ∙ regroup (codes "<") (name_bytes name) ats (codes ">") (f.0 ∷ f.1) (codes "</") (written false qs)
     ∙ ap (λ z. element_bytes name ats z ++ written false qs) (sym f.2)
 
@@ -76,10 +79,10 @@ written_is : (gs : Givens) → AllByRecursion IsSolid (pieces gs) → (qs : List
 written_is nothing h qs = refl
 written_is (followed (attribute name val) gs) h qs = written_is gs h qs
 written_is (followed (element name inner) gs) h qs =
-    let hi : AllByRecursion IsSolid (pieces inner) = each-left IsSolid (pieces inner) (closed name ∷ pieces gs) h.1 in
-    let hg : AllByRecursion IsSolid (pieces gs) = (each-right IsSolid (pieces inner) (closed name ∷ pieces gs) h.1).1 in
-    ap (λ z. codes "<" ++ (name_bytes name ++ (z ++ written true ((pieces inner ++ (closed name ∷ pieces gs)) ++ qs)))) (sym (told_attributes inner))
-    ∙ ap (λ (z : List Piece). codes "<" ++ (name_bytes name ++ (attributes_bytes inner ++ written true z))) (append_assoc (pieces inner) (closed name ∷ pieces gs) qs)
+    let hi : AllByRecursion IsSolid (pieces inner) = all_left IsSolid (pieces inner) (end_tag name ∷ pieces gs) h.1 in
+    let hg : AllByRecursion IsSolid (pieces gs) = (all_right IsSolid (pieces inner) (end_tag name ∷ pieces gs) h.1).1 in
+    ap (λ z. codes "<" ++ (name_bytes name ++ (z ++ written true ((pieces inner ++ (end_tag name ∷ pieces gs)) ++ qs)))) (sym (told_attributes inner))
+    ∙ ap (λ (z : List Piece). codes "<" ++ (name_bytes name ++ (attributes_bytes inner ++ written true z))) (append_assoc (pieces inner) (end_tag name ∷ pieces gs) qs)
     ∙ element_written name (attributes_bytes inner) inner (pieces gs ++ qs) (starts inner hi) (written_is inner hi)
     ∙ ap (λ z. element_bytes name (attributes_bytes inner) (contents_bytes inner) ++ z) (written_is gs hg qs)
     ∙ sym (append_assoc (element_bytes name (attributes_bytes inner) (contents_bytes inner)) (contents_bytes gs) (written false qs))
@@ -114,14 +117,14 @@ root_written : (name : List ℕ) (inner : Givens) (state : State) → AllByRecur
 root_written name inner state h =
     let ats = state_bytes state ++ attributes_bytes inner in
     ap (λ z. z ++ 10 ∷ []) (sym (append-nil (element_bytes name ats (contents_bytes inner))) ∙ sym (element_written name ats inner [] (starts inner h) (written_is inner h)))
-    ∙ ap (λ z. (codes "<" ++ (name_bytes name ++ ((state_bytes state ++ z) ++ written true (pieces inner ++ (closed name ∷ []))))) ++ 10 ∷ []) (told_attributes inner)
+    ∙ ap (λ z. (codes "<" ++ (name_bytes name ++ ((state_bytes state ++ z) ++ written true (pieces inner ++ (end_tag name ∷ []))))) ++ 10 ∷ []) (told_attributes inner)
 
 pub document_is_written : DocumentIsWritten
 document_is_written nothing state h a e c = absurd (omega (arith, e))
 document_is_written (followed (attribute name val) gs) state h a e c = absurd (cc (a))
 document_is_written (followed (element name inner) gs) state h a e c =
-    let hi : AllByRecursion IsSolid (pieces inner) = each-left IsSolid (pieces inner) (closed name ∷ pieces gs) h.1 in
-    let hg : AllByRecursion IsSolid (pieces gs) = (each-right IsSolid (pieces inner) (closed name ∷ pieces gs) h.1).1 in
+    let hi : AllByRecursion IsSolid (pieces inner) = all_left IsSolid (pieces inner) (end_tag name ∷ pieces gs) h.1 in
+    let hg : AllByRecursion IsSolid (pieces gs) = (all_right IsSolid (pieces inner) (end_tag name ∷ pieces gs) h.1).1 in
     let q : gs ≡ nothing = nothing_else gs hg a (omega (arith, e)) c in
     subst (λ z. xml (followed (element name inner) z) state ≡ document state (pieces (followed (element name inner) z))) (sym q) (root_written name inner state hi)
 document_is_written (followed (run []) gs) state h a e c = absurd h.0

@@ -1,15 +1,18 @@
 //! A marked tree that is being made, step by step.
 //!
 //! Attributes wait until the element around them ends: those of an element are then the last that wait.
-ghost use Rattle.std.specs.Prelude.{◌≡◌, ◌<◌, ◌≤◌, ℕ, false, List, [], OnOk, length, get_or};
+ghost use Rattle.std.specs.Prelude.{◌≡◌, ◌<◌, ◌≤◌, ◌++◌, ℕ, false, List, [], OnOk, length, get_or};
 ghost use Rattle.ix_model.specs.declared.grammar.Mark.TheVariants as mark;
+ghost use Rattle.ix_model.specs.Documents.Gives.{shown_text};
 ghost use Rattle.ix_marks.specs.declared.building.Open.TheVariants as open_node;
 ghost use Rattle.ix_marks.specs.Building.{IsBuilt, IsBuiltBut, with_chars, marks_of};
+ghost use Rattle.ix_marks.specs.Counted.{AreCounted};
+ghost use Rattle.ix_marks.specs.InRange.{AreIn};
 ghost use Rattle.ix_marks.specs.Levels.{State, outside, flush, beginning, enter, leave, read, after};
-ghost use Rattle.ix_marks.specs.Marks.{AreIn, IsMade};
-ghost use Rattle.ix_marks.specs.Pieces.{Piece};
-ghost use Rattle.ix_marks.specs.Standing.{IsStepIn};
-ghost use Rattle.ix_model.specs.Documents.Gives.{shown_text};
+ghost use Rattle.ix_marks.specs.Pieces.{Attribute as AnAttribute, Piece};
+ghost use Rattle.ix_marks.specs.Shown.{characters_of};
+ghost use Rattle.ix_marks.specs.Standing.{IsMade};
+ghost use Rattle.ix_marks.specs.Steps.{IsStepIn};
 
 use crate::item::{Attr, Item};
 use ix_model::{Mark, Plan, Step};
@@ -36,7 +39,7 @@ pub(crate) enum Open {
 #[derive(Drop)]
 pub(crate) struct Building {
     pub(crate) items: Vec<Item>,
-    // Those of the elements that ended.
+    // Those of the elements that ended, one element's after another's.
     pub(crate) attrs: Vec<Attr>,
     // Those that came and whose element has not ended.
     pub(crate) waiting: Vec<Attr>,
@@ -73,7 +76,8 @@ fn shown_text(plan: &Plan, low: u32, high: u32, shown: bool) -> &[char]
 
 impl Building {
     pub(crate) fn new(alloc: Global) -> Building
-        ensures { (names : List (List ℕ)) → IsBuilt names result beginning }
+        ensures built { (names : List (List ℕ)) → IsBuilt names result beginning }
+        ensures chars { result.chars.items ≡ [] }
     {
         Building {
             items: Vec::new(alloc),
@@ -88,7 +92,8 @@ impl Building {
 
     // Characters come.
     pub(crate) fn read(&mut self, chars: &[char]) -> Result<(), AllocError>
-        ensures { OnOk result ((names : List (List ℕ)) (st : State) → IsBuilt names self.old st → IsBuilt names self.new (read st chars.now)) }
+        ensures built { OnOk result ((names : List (List ℕ)) (st : State) → IsBuilt names self.old st → IsBuilt names self.new (read st chars.now)) }
+        ensures chars { OnOk result (self.new.chars.items ≡ self.old.chars.items ++ chars.now) }
     {
         self.chars.extend_from_slice(chars)?;
         Ok(())
@@ -96,7 +101,8 @@ impl Building {
 
     // A node begins.
     pub(crate) fn enter(&mut self, name: u32, mark: Mark) -> Result<(), AllocError>
-        ensures { OnOk result ((names : List (List ℕ)) (st : State) → name < length names → IsBuilt names self.old st → IsBuilt names self.new (enter st (get_or names name []) mark)) }
+        ensures built { OnOk result ((names : List (List ℕ)) (st : State) → name < length names → IsBuilt names self.old st → IsBuilt names self.new (enter st (get_or names name []) mark)) }
+        ensures chars { OnOk result (self.new.chars.items ≡ self.old.chars.items) }
     {
         if self.in_value {
             self.opens.push(Open::Hidden)?;
@@ -114,7 +120,8 @@ impl Building {
 
     fn begin_element(&mut self, name: u32) -> Result<(), AllocError>
         requires { self.old.in_value ≡ false }
-        ensures { OnOk result ((names : List (List ℕ)) (st : State) → name < length names → IsBuilt names self.old st → IsBuilt names self.new (enter st (get_or names name []) mark.Element)) }
+        ensures built { OnOk result ((names : List (List ℕ)) (st : State) → name < length names → IsBuilt names self.old st → IsBuilt names self.new (enter st (get_or names name []) mark.Element)) }
+        ensures chars { OnOk result (self.new.chars.items ≡ self.old.chars.items) }
     {
         let high = self.chars.len() as u64;
         put_chars(&mut self.items, self.low, high)?;
@@ -134,7 +141,8 @@ impl Building {
 
     fn begin_attribute(&mut self, name: u32) -> Result<(), AllocError>
         requires { self.old.in_value ≡ false }
-        ensures { OnOk result ((names : List (List ℕ)) (st : State) → name < length names → IsBuilt names self.old st → IsBuilt names self.new (enter st (get_or names name []) mark.Attribute)) }
+        ensures built { OnOk result ((names : List (List ℕ)) (st : State) → name < length names → IsBuilt names self.old st → IsBuilt names self.new (enter st (get_or names name []) mark.Attribute)) }
+        ensures chars { OnOk result (self.new.chars.items ≡ self.old.chars.items) }
     {
         let high = self.chars.len() as u64;
         put_chars(&mut self.items, self.low, high)?;
@@ -147,7 +155,8 @@ impl Building {
     // The node that began last and has not ended ends.
     pub(crate) fn leave(&mut self) -> Result<(), AllocError>
         requires { (names : List (List ℕ)) × (st : State) × IsBuilt names self.old st }
-        ensures { OnOk result ((names : List (List ℕ)) (st : State) → IsBuilt names self.old st → IsBuilt names self.new (leave st)) }
+        ensures built { OnOk result ((names : List (List ℕ)) (st : State) → IsBuilt names self.old st → IsBuilt names self.new (leave st)) }
+        ensures chars { OnOk result (self.new.chars.items ≡ self.old.chars.items) }
     {
         match self.opens.pop() {
             None => Ok(()),
@@ -165,7 +174,8 @@ impl Building {
 
     fn end_element(&mut self, name: u32, begin: usize, waiting: usize) -> Result<(), AllocError>
         requires { (names : List (List ℕ)) × (st : State) × IsBuiltBut names self.old (open_node.Element name begin waiting) st }
-        ensures { OnOk result ((names : List (List ℕ)) (st : State) → IsBuiltBut names self.old (open_node.Element name begin waiting) st → IsBuilt names self.new (leave st)) }
+        ensures built { OnOk result ((names : List (List ℕ)) (st : State) → IsBuiltBut names self.old (open_node.Element name begin waiting) st → IsBuilt names self.new (leave st)) }
+        ensures chars { OnOk result (self.new.chars.items ≡ self.old.chars.items) }
     {
         let high = self.chars.len() as u64;
         put_chars(&mut self.items, self.low, high)?;
@@ -183,7 +193,8 @@ impl Building {
     }
 
     fn end_attribute(&mut self, name: u32, low: u64) -> Result<(), AllocError>
-        ensures { OnOk result ((names : List (List ℕ)) (st : State) → IsBuiltBut names self.old (open_node.Attribute name low) st → IsBuilt names self.new (leave st)) }
+        ensures built { OnOk result ((names : List (List ℕ)) (st : State) → IsBuiltBut names self.old (open_node.Attribute name low) st → IsBuilt names self.new (leave st)) }
+        ensures chars { OnOk result (self.new.chars.items ≡ self.old.chars.items) }
     {
         let high = self.chars.len() as u64;
         self.waiting.push(Attr { name, low, high })?;
@@ -196,7 +207,8 @@ impl Building {
     pub(crate) fn step(&mut self, plan: &Plan, step: Step) -> Result<(), AllocError>
         requires there { IsStepIn plan.now step }
         requires built { (st : State) × IsBuilt plan.now.rules.names self.old st }
-        ensures { OnOk result ((st : State) → IsBuilt plan.now.rules.names self.old st → IsBuilt plan.now.rules.names self.new (after plan.now.rules plan.now.text st step)) }
+        ensures built { OnOk result ((st : State) → IsBuilt plan.now.rules.names self.old st → IsBuilt plan.now.rules.names self.new (after plan.now.rules plan.now.text st step)) }
+        ensures chars { OnOk result (self.new.chars.items ≡ self.old.chars.items ++ characters_of plan.now.rules plan.now.text step) }
     {
         match step {
             Step::Enter { name, mark } => self.enter(name, mark),
@@ -209,7 +221,9 @@ impl Building {
     // All steps came.
     pub(crate) fn end(&mut self) -> Result<(), AllocError>
         ensures there { OnOk result ((names : List (List ℕ)) (st : State) → IsBuilt names self.old st → AreIn names (marks_of self.new)) }
-        ensures whole { OnOk result ((names : List (List ℕ)) (ps : List Piece) (cs : List ℕ) (ats : List (List ℕ × List ℕ)) → IsBuilt names self.old (outside [] ps cs ats) → IsMade names (marks_of self.new) (flush ps cs) ats) }
+        ensures once { OnOk result ((names : List (List ℕ)) (st : State) → IsBuilt names self.old st → AreCounted (marks_of self.new)) }
+        ensures whole { OnOk result ((names : List (List ℕ)) (ps : List Piece) (cs : List ℕ) (ats : List AnAttribute) → IsBuilt names self.old (outside [] ps cs ats) → IsMade names (marks_of self.new) (flush ps cs) ats) }
+        ensures chars { OnOk result (self.new.chars.items ≡ self.old.chars.items) }
     {
         let high = self.chars.len() as u64;
         put_chars(&mut self.items, self.low, high)?;
