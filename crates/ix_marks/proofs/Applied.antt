@@ -11,7 +11,6 @@ use Rattle.ix_model.specs.Documents.WalkGives.{IsWalk, AreWalks}
 use Rattle.ix_model.specs.Documents.Gives.{attribute, element, run, Givens, nothing, followed, put_run, join_given, shown_text, value, values, gives, gives_all}
 use Rattle.ix_marks.specs.Pieces.{Attribute, attribute_is, Piece, start_tag, end_tag, characters, attributes, pieces}
 use Rattle.ix_marks.specs.Levels.{Level, hidden, of_element, State, outside, inside, flush, leave, after, after_all}
-use Rattle.ix_marks.specs.Shown.{characters_of, shown_by_all}
 
 -- ---- what is given behind some pieces and a run
 

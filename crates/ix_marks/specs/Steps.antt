@@ -1,5 +1,5 @@
 -- What the steps of a walk name is there.
-use Rattle.std.specs.Prelude.{◌<◌, ◌≤◌, ℕ, List, length}
+use Rattle.std.specs.Prelude.{◌<◌, ◌≤◌, List, length}
 use Rattle.std.specs.List.{AllByRecursion}
 use Rattle.ix_model.specs.declared.step.Step.{Step}
 use Rattle.ix_model.specs.declared.step.Step.TheVariants as step

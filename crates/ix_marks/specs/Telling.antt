@@ -1,5 +1,5 @@
 -- What a reader of the pieces finds, one piece after the other: the lists and counts that keep a derivation from being a document.
-use Rattle.std.specs.Prelude.{◌≡◌, ℕ, zero, suc, ◌+◌, List, [], ◌∷◌, ◌++◌, length, map}
+use Rattle.std.specs.Prelude.{◌≡◌, ℕ, zero, suc, ◌+◌, List, [], ◌∷◌, length, map}
 use Rattle.std.specs.List.{flat_map}
 use Rattle.ix_model.specs.Documents.Gives.{Givens}
 use Rattle.ix_model.specs.Documents.Dyn.{attribute_names, value_characters, element_count, character_count, content_names, content_characters, content_attributes}

@@ -56,7 +56,10 @@ fn a_hidden_node_hands_on_what_it_holds(rt: HostRuntime) -> Result<(), Fail> {
         low: 0,
         high: 1,
     };
-    assert_eq!(rt; tree.items(), [begin, run, Item::Close { name: 0 }].as_slice());
+    assert_eq!(rt;
+        tree.items(),
+        [begin, run, Item::Close { name: 0 }].as_slice()
+    );
     assert_eq!(rt; tree.attrs(), [value].as_slice());
     assert_eq!(rt; tree.top().len(), 0);
     assert_eq!(rt; tree.chars(), ['v', 't'].as_slice());
