@@ -14,7 +14,7 @@ use Rattle.ix_marks.specs.declared.item.Item.{Item}
 use Rattle.ix_marks.specs.declared.item.Item.TheVariants.{Begin, Close, Chars}
 use Rattle.ix_marks.specs.declared.item.Attr.{Attr}
 use Rattle.ix_model.proofs.AllOf.{all_append}
-use Rattle.ix_marks.specs.InRange.{IsAttrIn}
+use Rattle.ix_marks.specs.InRange.{AreAttrsIn, IsAttrIn}
 use Rattle.ix_marks.specs.Laws.{AreDistinct, RepeatTells}
 use Rattle.ix_marks.specs.Meaning.{attribute_of, piece_of}
 use Rattle.ix_marks.specs.Ranges.{range_of}
@@ -129,12 +129,12 @@ module _ (names : List (List ℕ)) (distinct : AreDistinct names) where
       further : Answer named (all_named (before ++ x ∷ []) ++ all_named xs) (repeat_behind (before ++ x ∷ []) xs) → Answer named (all_named before ++ (named x ∷ all_named xs)) (repeat_behind (before ++ x ∷ []) xs)
       further h = subst (λ (z : List (List ℕ)). Answer named z (repeat_behind (before ++ x ∷ []) xs)) (ap (λ z. z ++ all_named xs) pushed ∙ append_assoc (all_named before) (named x ∷ []) (all_named xs)) h
 
-  module _ (attrs : List Attr) (chars : List ℕ) (k : AllByRecursion (IsAttrIn names chars) attrs) where
+  module _ (attrs : List Attr) (chars : List ℕ) (k : AreAttrsIn names chars attrs) where
     txt_is : (xs : List Attr) → names_of (map (attribute_of names chars) xs) ≡ all_named (numbers xs)
     txt_is [] = refl
     txt_is (x ∷ xs) = ap (λ z. named x.name ∷ z) (txt_is xs)
 
-    below : (xs : List Attr) → AllByRecursion (IsAttrIn names chars) xs → Below (numbers xs)
+    below : (xs : List Attr) → AreAttrsIn names chars xs → Below (numbers xs)
     below [] h = tt
     below (x ∷ xs) h = (h.0.0, below xs h.1)
 

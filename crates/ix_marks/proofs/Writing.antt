@@ -13,7 +13,7 @@ use Rattle.ix_marks.specs.declared.item.Item.{Item}
 use Rattle.ix_marks.specs.declared.item.Item.TheVariants.{Begin, Close, Chars}
 use Rattle.ix_marks.specs.declared.item.Attr.{Attr}
 use Rattle.ix_model.proofs.AllOf.{all_left, all_right}
-use Rattle.ix_marks.specs.InRange.{IsItemIn}
+use Rattle.ix_marks.specs.InRange.{AreItemsIn}
 use Rattle.ix_marks.specs.Laws.{PiecesAreWritten, RunsAreSolid, DocumentIsWritten}
 use Rattle.ix_marks.specs.Meaning.{piece_of}
 use Rattle.ix_marks.specs.Ranges.{range_of}
@@ -96,7 +96,7 @@ solid_run : (cs : List ℕ) → 1 ≤ length cs → IsSolid (characters cs)
 solid_run [] h = absurd (omega (arith, h))
 solid_run (c ∷ cs) h = tt
 
-solid_items : (names : List (List ℕ)) (attrs : List Attr) (chars : List ℕ) (items : List Item) → AllByRecursion (IsItemIn names attrs chars) items → AllByRecursion IsSolid (map (piece_of names attrs chars) items)
+solid_items : (names : List (List ℕ)) (attrs : List Attr) (chars : List ℕ) (items : List Item) → AreItemsIn names attrs chars items → AllByRecursion IsSolid (map (piece_of names attrs chars) items)
 solid_items names attrs chars [] h = tt
 solid_items names attrs chars (Begin n low high ∷ items) h = (tt, solid_items names attrs chars items h.1)
 solid_items names attrs chars (Close n ∷ items) h = (tt, solid_items names attrs chars items h.1)

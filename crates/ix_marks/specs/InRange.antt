@@ -4,7 +4,7 @@ use Rattle.std.specs.List.{AllByRecursion}
 use Rattle.ix_marks.specs.declared.item.Item.{Item}
 use Rattle.ix_marks.specs.declared.item.Item.TheVariants.{Begin, Close, Chars}
 use Rattle.ix_marks.specs.declared.item.Attr.{Attr}
-use Rattle.ix_marks.specs.Marks.{Marks}
+use Rattle.ix_marks.specs.MarkedLists.{MarkedLists}
 
 module _ (names : List (List ℕ)) where
   -- the attribute's name is there, and its value, which may be empty
@@ -17,8 +17,15 @@ module _ (names : List (List ℕ)) where
   IsItemIn attrs chars (Close name) = name < length names
   IsItemIn attrs chars (Chars low high) = (low < high) × (high ≤ length chars)
 
-  -- so it is with all items, all attributes of elements, and all that no element has
-  pub record AreIn (m : Marks) : Type 0 where
-    pub items_in : AllByRecursion (IsItemIn m.attrs m.chars) m.items
-    pub attrs_in : AllByRecursion (IsAttrIn m.chars) m.attrs
-    pub top_in : AllByRecursion (IsAttrIn m.chars) m.top
+  -- so it is with each
+  abbrev pub AreAttrsIn : List ℕ → List Attr → Type 0
+  AreAttrsIn chars attrs = AllByRecursion (IsAttrIn chars) attrs
+
+  abbrev pub AreItemsIn : List Attr → List ℕ → List Item → Type 0
+  AreItemsIn attrs chars items = AllByRecursion (IsItemIn attrs chars) items
+
+  -- with all items, all attributes of elements, and all that no element has
+  pub record AreIn (m : MarkedLists) : Type 0 where
+    pub items_in : AreItemsIn m.attrs m.chars m.items
+    pub attrs_in : AreAttrsIn m.chars m.attrs
+    pub top_in : AreAttrsIn m.chars m.top

@@ -16,7 +16,7 @@ use Rattle.ix_model.specs.Expansion.Planned.{IsPlanned, IsThere}
 use Rattle.ix_model.specs.Expansion.Walk.{walk}
 use Rattle.ix_model.specs.Grammars.Names.{HasUniqueNames}
 use Rattle.ix_marks.specs.InRange.{AreIn}
-use Rattle.ix_marks.specs.Marks.{Marks}
+use Rattle.ix_marks.specs.MarkedLists.{MarkedLists}
 use Rattle.ix_marks.specs.Pieces.{attributes, pieces}
 use Rattle.ix_marks.specs.Repeats.{repeat_among}
 use Rattle.ix_marks.specs.Standing.{StandsFor}
@@ -35,12 +35,12 @@ PiecesTell = (gs : Givens) → IsTold gs
 -- where the names are distinct, the repeated name of a marked tree is the one that the definition names, or there is none
 abbrev pub RepeatTells : Type 0
 RepeatTells =
-    (names : List (List ℕ)) (m : Marks) (gs : Givens) → AreDistinct names → AreIn names m → StandsFor names m gs →
+    (names : List (List ℕ)) (m : MarkedLists) (gs : Givens) → AreDistinct names → AreIn names m → StandsFor names m gs →
     MatchOption (repeat_among m.attrs m.items) ((name : List ℕ) → ¬ (Holds gs (same_attribute name))) (λ n. Holds gs (same_attribute (get_or names n [])))
 
 -- each run of a marked tree has a character
 abbrev pub RunsAreSolid : Type 0
-RunsAreSolid = (names : List (List ℕ)) (m : Marks) (gs : Givens) → AreIn names m → StandsFor names m gs → AllByRecursion IsSolid (pieces gs)
+RunsAreSolid = (names : List (List ℕ)) (m : MarkedLists) (gs : Givens) → AreIn names m → StandsFor names m gs → AllByRecursion IsSolid (pieces gs)
 
 -- what is written of an element's parts is what is written of their pieces
 abbrev pub PiecesAreWritten : Type 0

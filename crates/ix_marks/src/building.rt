@@ -5,7 +5,7 @@ ghost use Rattle.std.specs.Prelude.{◌≡◌, ◌<◌, ◌≤◌, ◌++◌, ℕ
 ghost use Rattle.ix_model.specs.declared.grammar.Mark.TheVariants as mark;
 ghost use Rattle.ix_model.specs.Documents.Gives.{shown_text};
 ghost use Rattle.ix_marks.specs.declared.building.Open.TheVariants as open_node;
-ghost use Rattle.ix_marks.specs.Building.{IsBuilt, IsBuiltBut, with_chars, marks_of};
+ghost use Rattle.ix_marks.specs.Building.{IsBuilt, IsBuiltBut, with_chars, lists_of};
 ghost use Rattle.ix_marks.specs.Counted.{AreCounted};
 ghost use Rattle.ix_marks.specs.InRange.{AreIn};
 ghost use Rattle.ix_marks.specs.Levels.{State, outside, flush, beginning, enter, leave, read, after};
@@ -220,9 +220,9 @@ impl Building {
 
     // All steps came.
     pub(crate) fn end(&mut self) -> Result<(), AllocError>
-        ensures there { OnOk result ((names : List (List ℕ)) (st : State) → IsBuilt names self.old st → AreIn names (marks_of self.new)) }
-        ensures once { OnOk result ((names : List (List ℕ)) (st : State) → IsBuilt names self.old st → AreCounted (marks_of self.new)) }
-        ensures whole { OnOk result ((names : List (List ℕ)) (ps : List Piece) (cs : List ℕ) (ats : List AnAttribute) → IsBuilt names self.old (outside [] ps cs ats) → IsMade names (marks_of self.new) (flush ps cs) ats) }
+        ensures there { OnOk result ((names : List (List ℕ)) (st : State) → IsBuilt names self.old st → AreIn names (lists_of self.new)) }
+        ensures once { OnOk result ((names : List (List ℕ)) (st : State) → IsBuilt names self.old st → AreCounted (lists_of self.new)) }
+        ensures whole { OnOk result ((names : List (List ℕ)) (ps : List Piece) (cs : List ℕ) (ats : List AnAttribute) → IsBuilt names self.old (outside [] ps cs ats) → IsMade names (lists_of self.new) (flush ps cs) ats) }
         ensures chars { OnOk result (self.new.chars.items ≡ self.old.chars.items) }
     {
         let high = self.chars.len() as u64;

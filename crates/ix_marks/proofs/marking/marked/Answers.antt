@@ -5,11 +5,11 @@ use Rattle.ix_model.specs.declared.grammar.Mark.TheVariants.{Element}
 use Rattle.ix_model.specs.declared.step.Step.{Step}
 use Rattle.ix_model.specs.declared.step.Step.TheVariants as step
 use Rattle.ix_model.specs.Documents.Gives.{gives_all}
-use Rattle.ix_marks.specs.Building.{IsBuilt, marks_of}
+use Rattle.ix_marks.specs.Building.{IsBuilt, lists_of}
 use Rattle.ix_marks.specs.Counted.{AreCounted}
 use Rattle.ix_marks.specs.InRange.{AreIn}
 use Rattle.ix_marks.specs.Levels.{outside, beginning, after_all}
-use Rattle.ix_marks.specs.Marks.{Marks}
+use Rattle.ix_marks.specs.MarkedLists.{MarkedLists}
 use Rattle.ix_marks.specs.Pieces.{Piece, attributes, pieces}
 use Rattle.ix_marks.specs.Shown.{characters_of, shown_by_all}
 use Rattle.ix_marks.specs.Standing.{IsMade}
@@ -50,15 +50,15 @@ returns-clause-gives c = λ bs h.
     ap (after_all plan.rules plan.text beginning) whole ∙ outside_walks plan.rules plan.text bs steps h [] [] [] [] in
     let built = subst (IsBuilt plan.rules.names c.loop-step.building) walked c.loop-step.invariant.built in
     let made = c.in_ok-end.ensures.whole plan.rules.names (pieces_after gs [] []) (run_after gs []) (attributes gs) built in
-    let said = subst (λ (ps : List Piece). IsMade plan.rules.names (marks_of c.end.new.self) ps (attributes gs)) (settled gs [] (all_apart plan.text bs)) made in
-    subst (λ (m : Marks). IsMade plan.rules.names m (pieces gs) (attributes gs)) (sym c.of.ensures) said
+    let said = subst (λ (ps : List Piece). IsMade plan.rules.names (lists_of c.end.new.self) ps (attributes gs)) (settled gs [] (all_apart plan.text bs)) made in
+    subst (λ (m : MarkedLists). IsMade plan.rules.names m (pieces gs) (attributes gs)) (sym c.of.ensures) said
 
 pub returns-clause-chars : goal.returns-clause-chars
 returns-clause-chars c = λ bs h.
     let plan = c.args.plan.now in
     let steps = c.args.steps.now in
     let whole : take c.loop-step.step-index steps ≡ steps = take_all c.loop-step.step-index steps (omega arith) in
-    ap (λ (m : Marks). m.chars) c.of.ensures
+    ap (λ (m : MarkedLists). m.chars) c.of.ensures
     ∙ c.in_ok-end.ensures.chars
     ∙ c.loop-step.invariant.chars
     ∙ ap (shown_by_all plan.rules plan.text) whole
