@@ -32,6 +32,7 @@ pieces_after (followed (run ds) gs) ps cs = pieces_after gs ps (cs ++ ds)
 abbrev pub state_after : List Level → List Piece → List ℕ → List Attribute → Givens → State
 state_after ls ps cs ats gs = outside ls (pieces_after gs ps cs) (run_after gs cs) (ats ++ attributes gs)
 
+-- characters in front of what is given go behind the run
 put_after : (ds : List ℕ) (gs : Givens) (cs : List ℕ) → run_after (put_run ds gs) cs ≡ run_after gs (cs ++ ds)
 put_after [] gs cs = ap (run_after gs) (sym (append-nil cs))
 put_after (d ∷ ds) nothing cs = refl
@@ -53,6 +54,7 @@ put_attributes (d ∷ ds) (followed (attribute name val) gs) = refl
 put_attributes (d ∷ ds) (followed (element name inner) gs) = refl
 put_attributes (d ∷ ds) (followed (run es) gs) = refl
 
+-- what is given first comes before what is given then
 join_after : (gs hs : Givens) (cs : List ℕ) → run_after (join_given gs hs) cs ≡ run_after hs (run_after gs cs)
 join_after nothing hs cs = refl
 join_after (followed (attribute name val) gs) hs cs = join_after gs hs []
@@ -147,6 +149,7 @@ mutual
 -- ---- the steps
 
 module _ (rules : Rules) (s : List ℕ) where
+  -- steps behind steps
   pub after_append : (st : State) (xs ys : List Step) → after_all rules s st (xs ++ ys) ≡ after_all rules s (after_all rules s st xs) ys
   after_append st [] ys = refl
   after_append st (x ∷ xs) ys = after_append (after rules s st x) xs ys

@@ -20,7 +20,7 @@ use Rattle.ix_marks.specs.Meaning.{attribute_of, piece_of}
 use Rattle.ix_marks.specs.Ranges.{range_of}
 use Rattle.ix_marks.specs.Repeats.{numbers, repeat_behind, repeat_among}
 use Rattle.ix_marks.specs.Telling.{names_of, piece_attributes}
-use Rattle.ix_marks.proofs.Ranges.{all_take, all_drop}
+use Rattle.ix_marks.proofs.RepeatInRange.{AreNumbers, range_numbers_in}
 use Rattle.ix_marks.proofs.Repeating.{has}
 use Rattle.ix_marks.proofs.Telling.{pieces_tell}
 
@@ -67,16 +67,13 @@ module _ (names : List (List ℕ)) (distinct : AreDistinct names) where
   abbrev all_named : List ℕ → List (List ℕ)
   all_named ns = map named ns
 
-  abbrev Below : List ℕ → Type 0
-  Below ns = AllByRecursion (λ n. n < length names) ns
-
   has_here : (x y : ℕ) (b : Bool) → y ≡ x → (eqb y x || b) ≡ true
   has_here x y b e = ap (λ z. z || b) yes
     where
       yes : eqb y x ≡ true
       yes = grind (arith, nat_tests)
 
-  has_get : (before : List ℕ) (x j : ℕ) → Below before → x < length names → slice_get (all_named before) j ≡ Some (named x) → has x before ≡ true
+  has_get : (before : List ℕ) (x j : ℕ) → AreNumbers names before → x < length names → slice_get (all_named before) j ≡ Some (named x) → has x before ≡ true
   has_get [] x j h l e = absurd (cc e)
   has_get (y ∷ ys) x zero h l e =
       let q : named y ≡ named x = cc e in
@@ -94,7 +91,7 @@ module _ (names : List (List ℕ)) (distinct : AreDistinct names) where
   repeat_left : (bs ys : List (List ℕ)) (m : ℕ) (y : List ℕ) → m ≤ length bs → IsRepeat (bs ++ ys) m y → IsRepeat bs m y
   repeat_left bs ys m y l (j, k, e) = (j, k, sym (get_before bs ys j (omega (arith, k, l))) ∙ e)
 
-  walk : (before xs : List ℕ) → Below before → Below xs → Clean (all_named before) → Answer named (all_named before ++ all_named xs) (repeat_behind before xs)
+  walk : (before xs : List ℕ) → AreNumbers names before → AreNumbers names xs → Clean (all_named before) → Answer named (all_named before ++ all_named xs) (repeat_behind before xs)
   walk before [] hb hx c = subst (λ (z : List (List ℕ)). HasRepeat z → ⊥) (sym (append-nil (all_named before))) (λ h. c h.0 h.1 h.2 h.3)
   walk before (x ∷ xs) hb hx c =
       cond_both (has x before) (Some x) (repeat_behind (before ++ x ∷ []) xs) (Answer named (all_named before ++ (named x ∷ all_named xs))) here
@@ -134,17 +131,13 @@ module _ (names : List (List ℕ)) (distinct : AreDistinct names) where
     txt_is [] = refl
     txt_is (x ∷ xs) = ap (λ z. named x.name ∷ z) (txt_is xs)
 
-    below : (xs : List Attr) → AreAttrsIn names chars xs → Below (numbers xs)
-    below [] h = tt
-    below (x ∷ xs) h = (h.0.0, below xs h.1)
-
     among : (items : List Item) → AnswerAmong named (flat_map piece_attributes (map (piece_of names attrs chars) items)) (repeat_among attrs items)
     among [] = λ k ns e. absurd (cc e)
     among (Begin n low high ∷ items) =
         let own = range_of attrs low high in
         subst (λ (z : List (List ℕ)). AnswerAmong named (z ∷ flat_map piece_attributes (map (piece_of names attrs chars) items)) (option_or (repeat_behind [] (numbers own)) (repeat_among attrs items))) (sym (txt_is own))
         (combine named (all_named (numbers own)) (flat_map piece_attributes (map (piece_of names attrs chars) items)) (repeat_behind [] (numbers own)) (repeat_among attrs items)
-        (walk [] (numbers own) tt (below own (all_take (IsAttrIn names chars) (high - low) (drop low attrs) (all_drop (IsAttrIn names chars) low attrs k))) (λ m y e. absurd (cc e))) (among items))
+        (walk [] (numbers own) tt (range_numbers_in names chars attrs low high k) (λ m y e. absurd (cc e))) (among items))
     among (Close n ∷ items) = among items
     among (Chars low high ∷ items) = among items
 

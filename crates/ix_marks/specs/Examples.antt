@@ -49,3 +49,7 @@ one_run = s_of (followed (run (codes "tv")) nothing)
 -- an attribute that no element has
 abbrev pub at_top : Givens
 at_top = followed (attribute (codes "a") (codes "v")) nothing
+
+-- <S><b a="v"/></S>
+abbrev pub inner_given : Givens
+inner_given = s_of (followed (element (codes "b") at_top) nothing)

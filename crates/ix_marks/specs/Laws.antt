@@ -1,5 +1,5 @@
 -- Laws of marked trees: what their readers may rely on.
-use Rattle.std.specs.Prelude.{◌≡◌, ◌<◌, ℕ, false, List, [], length, get_or, MatchOption}
+use Rattle.std.specs.Prelude.{◌≡◌, ◌<◌, ℕ, false, List, [], length, get_or, IfSome, MatchOption}
 use Rattle.std.specs.List.{AllByRecursion}
 use Rattle.ix_model.specs.declared.grammar.Grammar.{Grammar}
 use Rattle.ix_model.specs.declared.rules.Rules.{Rules}
@@ -37,6 +37,10 @@ abbrev pub RepeatTells : Type 0
 RepeatTells =
     (names : List (List ℕ)) (m : MarkedLists) (gs : Givens) → AreDistinct names → AreIn names m → StandsFor names m gs →
     MatchOption (repeat_among m.attrs m.items) ((name : List ℕ) → ¬ (Holds gs (same_attribute name))) (λ n. Holds gs (same_attribute (get_or names n [])))
+
+-- the repeated name of a marked tree is there
+abbrev pub RepeatIsIn : Type 0
+RepeatIsIn = (names : List (List ℕ)) (m : MarkedLists) → AreIn names m → IfSome (repeat_among m.attrs m.items) (λ n. n < length names)
 
 -- each run of a marked tree has a character
 abbrev pub RunsAreSolid : Type 0
