@@ -92,10 +92,10 @@ module _ (n : ℕ) (small : n < 2 ^ 32) where
   first_and_last s (inr f) (inl l) = f
 
   -- the empty alternative, S up to some position, or the letter behind an S
-  abbrev pub IsOneOf : ℕ → ℕ → ℕ → ℕ → Type 0
-  IsOneOf s l k r = (l ≡ 0) × (((s ≡ 3) × (k ≡ 0) × (r ≡ 0)) ⊎ (((s ≡ 1) × (k ≡ 0)) ⊎ ((s ≡ 2) × (r ≡ k + 1))))
+  abbrev pub IsOfLeftRecursion : ℕ → ℕ → ℕ → ℕ → Type 0
+  IsOfLeftRecursion s l k r = (l ≡ 0) × (((s ≡ 3) × (k ≡ 0) × (r ≡ 0)) ⊎ (((s ≡ 1) × (k ≡ 0)) ⊎ ((s ≡ 2) × (r ≡ k + 1))))
 
-  not_before : (s l k r : ℕ) → IsOneOf s l k r → s ≢ 0
+  not_before : (s l k r : ℕ) → IsOfLeftRecursion s l k r → s ≢ 0
   not_before s l k r (z, inl h) e = absurd (omega (arith, h.0, e))
   not_before s l k r (z, inr (inl h)) e = absurd (omega (arith, h.0, e))
   not_before s l k r (z, inr (inr h)) e = absurd (omega (arith, h.0, e))
@@ -104,7 +104,7 @@ module _ (n : ℕ) (small : n < 2 ^ 32) where
   waits q p s after l mark d (inl h) = (d.1 h.0, d.0)
   waits q p s after l mark d (inr h) = absurd (cc h.2)
 
-  passes : (s l k after r : ℕ) (x : Sym) → l ≡ 0 → IsNext s after x → IsTerminal (left_recursive n) x k r → IsOneOf after l k r
+  passes : (s l k after r : ℕ) (x : Sym) → l ≡ 0 → IsNext s after x → IsTerminal (left_recursive n) x k r → IsOfLeftRecursion after l k r
   passes s l k after r x z (inl h) t = absurd (cc (h.2, t.3))
   passes s l k after r x z (inr h) t =
       let m = literal_stands (left_recursive n) 0 k r (codes "a") refl (subst (λ (y : Sym). IsTerminal (left_recursive n) y k r) h.2 t) in
@@ -114,7 +114,7 @@ module _ (n : ℕ) (small : n < 2 ^ 32) where
   no_insertion s after i (inl h) = absurd (cc h.2)
   no_insertion s after i (inr h) = absurd (cc h.2)
 
-  joins : (q k s l r after : ℕ) (mark : Option Mark) → (k ≡ 0) × (l ≡ 0) → IsNext s after (S.Rule q mark) → IsOneOf after l k r
+  joins : (q k s l r after : ℕ) (mark : Option Mark) → (k ≡ 0) × (l ≡ 0) → IsNext s after (S.Rule q mark) → IsOfLeftRecursion after l k r
   joins q k s l r after mark e (inl h) = (e.1, inr (inl (h.1, e.0)))
   joins q k s l r after mark e (inr h) = absurd (cc h.2)
 
@@ -132,7 +132,7 @@ module _ (n : ℕ) (small : n < 2 ^ 32) where
     edge_left : (q p s l : ℕ) → Edge (left_recursive n) q p s l → (p ≡ 0) × (l ≡ 0)
     edge_left q p s l (waiting slot left at after rule mark d h) = waits rule at slot after left mark (desc_left slot left at d) (next_left slot after (S.Rule rule mark) h)
 
-    pub part_left : (s l k r : ℕ) → Part (left_recursive n) s l k r → IsOneOf s l k r
+    pub part_left : (s l k r : ℕ) → Part (left_recursive n) s l k r → IsOfLeftRecursion s l k r
     part_left s l k r (empty rule at slot c f g) =
         let z = called_left rule at c in
         (z, inl (first_and_last slot (first_left slot rule f) (last_left slot rule g), z, z))
@@ -227,7 +227,7 @@ parts_left n small sub = (listed_part n small n (omega arith) sub, all)
         by : (x : Sub) → Contains (left_recursive_subs n) x → x ≡ sub → Contains (left_recursive_subs n) sub
         by x c e = subst (λ (z : Sub). Contains (left_recursive_subs n) z) e c
 
-        go : IsOneOf n small sub.slot sub.left sub.pivot sub.right → Contains (left_recursive_subs n) sub
+        go : IsOfLeftRecursion n small sub.slot sub.left sub.pivot sub.right → Contains (left_recursive_subs n) sub
         go (z, inl t) = by (sub_at 3 0 0 0) (empty_listed n) (sym (same_sub sub.slot sub.left sub.pivot sub.right 3 0 0 0 t.0 z t.1 t.2))
         go (z, inr (inl t)) = by (sub_at 1 0 0 sub.right) (listed_up_to n sub.right within) (sym (same_sub sub.slot sub.left sub.pivot sub.right 1 0 0 sub.right t.0 z t.1 refl))
         go (z, inr (inr t)) =

@@ -15,7 +15,7 @@ use Rattle.ix_closure_laws.proofs.Reaching.{reached_part, useful_reached}
 use Rattle.ix_subtrees.specs.Examples.{left_recursive_subs}
 use Rattle.ix_examples.specs.TestPlans.{left_recursive}
 use Rattle.ix_subtrees.specs.Laws.{LeftRecursiveIsUseful}
-use Rattle.ix_subtrees.proofs.LeftRecursion.{planned_left, IsNext, next_left, last_left, IsOneOf, part_left, next_0, next_1, last_2, last_3, empty_part, part_up_to, letter_part, end_at, parts_left}
+use Rattle.ix_subtrees.proofs.LeftRecursion.{planned_left, IsNext, next_left, last_left, IsOfLeftRecursion, part_left, next_0, next_1, last_2, last_3, empty_part, part_up_to, letter_part, end_at, parts_left}
 use Rattle.ix_subtrees.proofs.SmallSets.{same_sub}
 
 module _ (n : ℕ) (small : n < 2 ^ 32) where
@@ -48,7 +48,7 @@ module _ (n : ℕ) (small : n < 2 ^ 32) where
       within : r ≤ n
       within = omega (arith, (part_within (left_recursive n) (planned_left n small) 2 0 k r part).3, length-replicate {A = ℕ} n 97)
 
-      go : IsOneOf n small 2 0 k r → k < n
+      go : IsOfLeftRecursion n small 2 0 k r → k < n
       go (z, inl t) = absurd (omega (arith, t.0))
       go (z, inr (inl t)) = absurd (omega (arith, t.0))
       go (z, inr (inr t)) = omega (arith, within, t.1)
@@ -62,7 +62,7 @@ module _ (n : ℕ) (small : n < 2 ^ 32) where
       not_last (inr f) = absurd (omega (arith, e, f))
   up_to_within s l k r (as_prefix slot after left first pivot right x h next part) e = go (next_left n small slot after x next)
     where
-      at_start : IsOneOf n small after left pivot right
+      at_start : IsOfLeftRecursion n small after left pivot right
       at_start = part_left n small after left pivot right (reached_part (left_recursive n) (planned_left n small) after left pivot right h)
 
       go : IsNext n small slot after x → pivot < n
@@ -99,7 +99,7 @@ useful_left n small sub = (λ u. (listed u, not_last u), λ h. useful_of (left_r
         up_to (inl h) e = by (sub_at 1 0 0 sub.right) (up_to_reached n small sub.right h (reached_up_to n small (sub.right + 1) (omega (arith, h)))) e
         up_to (inr h) e = absurd (other (sym e ∙ ap (sub_at 1 0 0) (omega (arith, h, within))))
 
-        go : IsOneOf n small sub.slot sub.left sub.pivot sub.right → SubReached (left_recursive n) sub.slot sub.left sub.pivot sub.right
+        go : IsOfLeftRecursion n small sub.slot sub.left sub.pivot sub.right → SubReached (left_recursive n) sub.slot sub.left sub.pivot sub.right
         go (z, inl t) = by (sub_at 3 0 0 0) (empty_reached n small) (sym (same_sub sub.slot sub.left sub.pivot sub.right 3 0 0 0 t.0 z t.1 t.2))
         go (z, inr (inl t)) = up_to (cases_lt sub.right n) (sym (same_sub sub.slot sub.left sub.pivot sub.right 1 0 0 sub.right t.0 z t.1 refl))
         go (z, inr (inr t)) =

@@ -12,7 +12,7 @@ use Rattle.std.proofs.lemmas.List.Sorted.{sorted_far, ranks_by}
 use Rattle.ix_subtrees.specs.declared.node.Key.{Key}
 use Rattle.ix_subtrees.specs.declared.node.Node.{Node}
 use Rattle.ix_subtrees.specs.Orders.{key_cmp}
-use Rattle.ix_subtrees.specs.Nodes.{key_at, no_node, InOrder, IsFirstAt, IsMarked, unmarked, AreTogether, Visited}
+use Rattle.ix_subtrees.specs.Nodes.{key_at, no_node, InOrder, IsFirstOfKey, IsMarked, unmarked, AreTogether, Visited}
 use Rattle.ix_subtrees.proofs.Lists.{each_of}
 use Rattle.ix_subtrees.proofs.Orders.{key_total, same_key}
 use Rattle.ix_subtrees.proofs.Points.{neither}
@@ -40,7 +40,7 @@ unmarked_set marks n h e = let one : Bool → ℕ = λ b. cond (not b) 1 0 in om
 
 -- the nodes from the key's first one to below `at` got their marks
 pub record Visiting (nodes : List Node) (key : Key) (from at : ℕ) (marks : List Bool) (todo : List ℕ) (marks' : List Bool) (todo' : List ℕ) : Type 0 where
-  pub lower : IsFirstAt nodes key from
+  pub lower : IsFirstOfKey nodes key from
   pub begun : from ≤ at
   pub within : at ≤ length nodes
   pub same : (i : ℕ) → from ≤ i → i < at → key_at nodes i ≡ key
@@ -54,7 +54,7 @@ pub record Visiting (nodes : List Node) (key : Key) (from at : ℕ) (marks : Lis
   pub paid : unmarked marks' + length todo' ≡ unmarked marks + length todo
 
 module _ (nodes : List Node) (key : Key) (from : ℕ) (marks : List Bool) (todo : List ℕ) where
-  pub visiting_none : IsFirstAt nodes key from → Visiting nodes key from from marks todo marks todo
+  pub visiting_none : IsFirstOfKey nodes key from → Visiting nodes key from from marks todo marks todo
   visiting_none h = record {
     lower = h;
     begun = omega arith;

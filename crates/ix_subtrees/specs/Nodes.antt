@@ -19,7 +19,7 @@ abbrev pub InOrder : List Node → Type 0
 InOrder = IsSortedByKey (λ (node : Node). node.key) key_cmp
 
 -- n is the number of nodes before those of the key
-pub record IsFirstAt (nodes : List Node) (key : Key) (n : ℕ) : Type 0 where
+pub record IsFirstOfKey (nodes : List Node) (key : Key) (n : ℕ) : Type 0 where
   pub within : n ≤ length nodes
   pub point : IsPartitionPoint (λ (node : Node). is_lt (key_cmp node.key key) ≡ true) (λ (node : Node). is_lt (key_cmp node.key key) ≡ false) nodes n
 

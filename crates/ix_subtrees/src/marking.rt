@@ -1,7 +1,7 @@
 ghost use Rattle.std.specs.Prelude.{◌≡◌, ◌<◌, ℕ, [], ◌∷◌, length, get_or, IfOk, OnOk};
 ghost use Rattle.std.specs.Ordering.{is_lt};
 ghost use Rattle.ix_subtrees.specs.Orders.{key_cmp};
-ghost use Rattle.ix_subtrees.specs.Nodes.{InOrder, IsFirstAt, AreTogether, Visited, no_node};
+ghost use Rattle.ix_subtrees.specs.Nodes.{InOrder, IsFirstOfKey, AreTogether, Visited, no_node};
 ghost use Rattle.ix_subtrees.specs.Walks.{keys_of, next_keys, Walking, AreLinked};
 
 use crate::node::{Key, Node, Owner};
@@ -11,7 +11,7 @@ use std::alloc::{AllocError, Global};
 // The number of the first node that does not come before the key.
 fn first_at(nodes: &[Node], key: Key) -> usize
     requires { InOrder nodes.now }
-    ensures { IsFirstAt nodes.now key result }
+    ensures { IsFirstOfKey nodes.now key result }
 {
     nodes.partition_point(
         |node: &Node| -> bool
