@@ -56,9 +56,11 @@ pub some_first : (numbers : BTreeMap (Bor (List ℕ)) ℕ) (names : List (List �
 some_first numbers names name None h e = tt
 some_first numbers names name (Some r) h e =
     let found = position-Some (bytes_eq name) names r name (position_from-zero (bytes_eq name) names ∙ sym (e ∙ h name)) in
-    let d : name ≡ get_or names r name = (bytes_eq-Decides name (get_or names r name)).0 found.1 in
-    (slice_get-get_or names r name found.0 ∙ ap Some (sym d), refl,
-    λ q other l there same. not_passing name (sym (ap (bytes_eq name) (get_or_from_slice_get names q other name there ∙ same)) ∙ found.2 q l))
+    let d : name ≡ get_or names r name = (bytes_eq-Decides name (get_or names r name)).0 found.1 in (
+      slice_get-get_or names r name found.0 ∙ ap Some (sym d),
+      refl,
+      λ q other l there same. not_passing name (sym (ap (bytes_eq name) (get_or_from_slice_get names q other name there ∙ same)) ∙ found.2 q l),
+    )
 
 pub none_first : (numbers : BTreeMap (Bor (List ℕ)) ℕ) (names : List (List ℕ)) (name : List ℕ) (result : Option ℕ) → AreNumbersOf numbers names → result ≡ number_in numbers name → IfNone result ((r : ℕ) → slice_get names r ≢ Some name)
 none_first numbers names name (Some r) h e = tt
