@@ -1,7 +1,7 @@
 -- The repeated number is that of the first repeated name, where the names are distinct.
-use Rattle.std.proofs.Common.{◌≡◌, ◌≤◌, ◌<◌, ◌-◌, ◌⊎◌, inl, inr, refl, ap, sym, subst, ◌∙◌, ℕ, zero, suc, Bool, true, false, eqb, List, [], ◌∷◌, ◌++◌, length, drop, map, get_or, Option, Some, None, slice_get, append_assoc, append-nil, length-append, arith}
+use Rattle.std.proofs.Common.{◌≡◌, ◌≤◌, ◌<◌, ◌⊎◌, inl, inr, refl, ap, sym, subst, ◌∙◌, ℕ, zero, suc, Bool, true, false, eqb, List, [], ◌∷◌, ◌++◌, length, map, get_or, Option, Some, None, slice_get, append_assoc, append-nil, length-append, arith}
 use Rattle.std.specs.Prelude.{◌||◌, MatchOption}
-use Rattle.std.specs.List.{flat_map, AllByRecursion}
+use Rattle.std.specs.List.{flat_map}
 use Rattle.std.specs.Option.{option_or}
 use Rattle.std.proofs.Math.Bool.{or-true}
 use Rattle.std.proofs.lemmas.Bool.{cond_both, eqb-true}
@@ -14,7 +14,7 @@ use Rattle.ix_marks.specs.declared.item.Item.{Item}
 use Rattle.ix_marks.specs.declared.item.Item.TheVariants.{Begin, Close, Chars}
 use Rattle.ix_marks.specs.declared.item.Attr.{Attr}
 use Rattle.ix_model.proofs.AllOf.{all_append}
-use Rattle.ix_marks.specs.InRange.{AreAttrsIn, IsAttrIn}
+use Rattle.ix_marks.specs.InRange.{AreAttrsIn}
 use Rattle.ix_marks.specs.Laws.{AreDistinct, RepeatTells}
 use Rattle.ix_marks.specs.Meaning.{attribute_of, piece_of}
 use Rattle.ix_marks.specs.Ranges.{range_of}
