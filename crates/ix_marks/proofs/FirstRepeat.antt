@@ -9,11 +9,13 @@ use Rattle.std.proofs.lemmas.Bool.Decides.{nat_tests}
 use Rattle.std.proofs.lemmas.List.{map-append}
 use Rattle.std.proofs.lemmas.Option.{slice_get_within}
 use Rattle.ix_model.specs.Documents.Gives.{Givens}
-use Rattle.ix_model.specs.Documents.Dyn.{content_attributes, IsFirst, IsRepeat, HasRepeat, Holds, same_attribute}
+use Rattle.ix_model.specs.Firsts.{IsFirstOf}
+use Rattle.ix_model.specs.Documents.Dyn.{content_attributes, IsRepeat, HasRepeat, Holds, same_attribute}
 use Rattle.ix_marks.specs.declared.item.Item.{Item}
 use Rattle.ix_marks.specs.declared.item.Item.TheVariants.{Begin, Close, Chars}
 use Rattle.ix_marks.specs.declared.item.Attr.{Attr}
 use Rattle.ix_model.proofs.AllOf.{all_append}
+use Rattle.ix_model.proofs.Firsts.{at_front, behind}
 use Rattle.ix_marks.specs.InRange.{AreAttrsIn}
 use Rattle.ix_marks.specs.Laws.{AreDistinct, RepeatTells}
 use Rattle.ix_marks.specs.Meaning.{attribute_of, piece_of}
@@ -40,25 +42,21 @@ Clean bs = (m : ℕ) (y : List ℕ) → slice_get bs m ≡ Some y → IsRepeat b
 -- the option names the first repeated name of the list, or there is none
 abbrev Answer : (ℕ → List ℕ) → List (List ℕ) → Option ℕ → Type 0
 Answer named full None = HasRepeat full → ⊥
-Answer named full (Some n) = IsFirst (IsRepeat full) full (named n)
+Answer named full (Some n) = IsFirstOf (IsRepeat full) full (named n)
 
 -- the same of the first list that has one
 abbrev AnswerAmong : (ℕ → List ℕ) → List (List (List ℕ)) → Option ℕ → Type 0
 AnswerAmong named lists None = (k : ℕ) (ns : List (List ℕ)) → slice_get lists k ≡ Some ns → HasRepeat ns → ⊥
-AnswerAmong named lists (Some n) = (ns : List (List ℕ)) × IsFirst (λ k others. HasRepeat others) lists ns × IsFirst (IsRepeat ns) ns (named n)
+AnswerAmong named lists (Some n) = (ns : List (List ℕ)) × IsFirstOf (λ k others. HasRepeat others) lists ns × IsFirstOf (IsRepeat ns) ns (named n)
 
 combine : (named : ℕ → List ℕ) (h : List (List ℕ)) (lists : List (List (List ℕ))) (r1 r2 : Option ℕ) → Answer named h r1 → AnswerAmong named lists r2 → AnswerAmong named (h ∷ lists) (option_or r1 r2)
-combine named h lists (Some n) r2 a b = (h, (0, refl, (a.0, named n, a.1, a.2), λ m y l. absurd (omega (arith, l))), a)
+combine named h lists (Some n) r2 a b = (h, at_front (λ k others. HasRepeat others) h lists (a.0, named n, a.1.0, a.1.1), a)
 combine named h lists None None a b = none
   where
     none : (k : ℕ) (ns : List (List ℕ)) → slice_get (h ∷ lists) k ≡ Some ns → HasRepeat ns → ⊥
     none zero ns e p = a (subst HasRepeat (sym {a = h} {b = ns} (cc e)) p)
     none (suc k) ns e p = b k ns e p
-combine named h lists None (Some n) a (ns, (k, e, p, before), f) = (ns, (suc k, e, p, earlier), f)
-  where
-    earlier : (m : ℕ) (y : List (List ℕ)) → m < suc k → slice_get (h ∷ lists) m ≡ Some y → HasRepeat y → ⊥
-    earlier zero y l e p = a (subst HasRepeat (sym {a = h} {b = y} (cc e)) p)
-    earlier (suc m) y l e p = before m y (omega (arith, l)) e p
+combine named h lists None (Some n) a (ns, first, f) = (ns, behind (λ k others. HasRepeat others) h lists ns a first, f)
 
 module _ (names : List (List ℕ)) (distinct : AreDistinct names) where
   abbrev named : ℕ → List ℕ
@@ -97,14 +95,16 @@ module _ (names : List (List ℕ)) (distinct : AreDistinct names) where
       cond_both (has x before) (Some x) (repeat_behind (before ++ x ∷ []) xs) (Answer named (all_named before ++ (named x ∷ all_named xs))) here
       (λ e. further (walk (before ++ x ∷ []) xs (all_append (λ n. n < length names) before (x ∷ []) hb (hx.0, tt)) hx.1 (subst Clean (sym pushed) (clean e))))
     where
-      here : has x before ≡ true → IsFirst (IsRepeat (all_named before ++ (named x ∷ all_named xs))) (all_named before ++ (named x ∷ all_named xs)) (named x)
+      here : has x before ≡ true → IsFirstOf (IsRepeat (all_named before ++ (named x ∷ all_named xs))) (all_named before ++ (named x ∷ all_named xs)) (named x)
       here e =
           let r = get_has before x e in
           let l = slice_get_within (all_named before) r.0 (named x) r.1 in (
             length (all_named before),
-            get_at_seam (all_named before) (named x) (all_named xs),
-            (r.0, l, get_before (all_named before) (named x ∷ all_named xs) r.0 l ∙ r.1),
-            λ m y k f p. c m y (sym (get_before (all_named before) (named x ∷ all_named xs) m k) ∙ f) (repeat_left (all_named before) (named x ∷ all_named xs) m y (omega (arith, k)) p),
+            (
+              get_at_seam (all_named before) (named x) (all_named xs),
+              (r.0, l, get_before (all_named before) (named x ∷ all_named xs) r.0 l ∙ r.1),
+              λ m y k f p. c m y (sym (get_before (all_named before) (named x ∷ all_named xs) m k) ∙ f) (repeat_left (all_named before) (named x ∷ all_named xs) m y (omega (arith, k)) p),
+            ),
           )
 
       clean : has x before ≡ false → Clean (all_named before ++ (named x ∷ []))
@@ -142,7 +142,7 @@ module _ (names : List (List ℕ)) (distinct : AreDistinct names) where
     among (Chars low high ∷ items) = among items
 
 finish : (names : List (List ℕ)) (gs : Givens) (r : Option ℕ) → AnswerAmong (λ n. get_or names n []) (content_attributes gs) r → MatchOption r ((name : List ℕ) → Holds gs (same_attribute name) → ⊥) (λ n. Holds gs (same_attribute (get_or names n [])))
-finish names gs None h = λ name p. h p.1.0 p.0 p.1.1 p.1.2
+finish names gs None h = λ name p. h p.1.0 p.0 p.1.1.0 p.1.1.1
 finish names gs (Some n) h = h
 
 pub repeat_tells : RepeatTells
