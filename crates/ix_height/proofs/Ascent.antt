@@ -18,10 +18,11 @@ use Rattle.ix_closure_laws.proofs.FlatWidths.{marked}
 use Rattle.ix_closure_laws.proofs.ClosedTrees.{covers_next, whole_tree, part_split}
 use Rattle.ix_closure_laws.proofs.Reaching.{reached_part, useful_reached}
 use Rattle.ix_height.specs.declared.edge.Edge.{Edge}
-use Rattle.ix_height.specs.declared.edge.Node.{Node}
+use Rattle.ix_height.specs.declared.span.Span.{Span}
 use Rattle.ix_model.specs.Expansion.FlatHeights.{raised, flat_height, flat_heights}
 use Rattle.ix_height.specs.Low.{raise, no_edge, Low, by_edge, LowPart, no_part, part}
-use Rattle.ix_height.specs.Spans.{is_named, Span, of_slot, of_rule, HasHeight, IsThere, is_raised, node_of}
+use Rattle.ix_height.specs.Spans.{is_named, of_slot, of_rule, is_raised}
+use Rattle.ix_height.specs.Heights.{HasHeight}
 use Rattle.ix_height.specs.Ways.{Before, Child, Way, empty, step, whole}
 use Rattle.ix_height.specs.Graph.{At, PartAt, IsGraph}
 
@@ -57,7 +58,7 @@ module _ (plan : Parts) (planned : IsPlanned plan) where
   TreeOf x k p h = (d : FlatTree) × FlatDerives plan d x k p × (flat_height plan.rules d ≡ h)
 
   -- a tree of the symbol
-  child_has : (d : FlatTree) (x : Sym) (k p h : ℕ) (two : Option Span) → FlatDerives plan d x k p → Child plan x k p two → PartHas two h → TreeOf x k p h
+  child_has : (d : FlatTree) (x : Sym) (k p h : ℕ) (two : Option Span) → FlatDerives plan d x k p → Child x k p two → PartHas two h → TreeOf x k p h
   child_has d (sy.Rule q m) k p h two t c has =
       let e : HasHeight plan (of_rule q k p) h = subst (λ (z : Option Span). PartHas z h) c has in
       (e.0, marked plan e.0 q k p None m e.1, e.2)
@@ -80,46 +81,36 @@ module _ (plan : Parts) (planned : IsPlanned plan) where
       let e : flat_heights plan.rules a.0 ≡ max h g = omega (arith, a.2, b) in
       (flat_node q last.0 a.0, whole_tree plan s q l p a.0 None last a.1, raised_by (kind_at plan.rules q) (flat_heights plan.rules a.0) ∙ ap (raise (is_named (kind_at plan.rules q))) e)
 
-  -- two spans have one node only if they are the same
-  pub same_span_of : (t u : Span) → IsThere plan t → IsThere plan u → node_of plan t ≡ node_of plan u → t ≡ u
-  same_span_of t u i j e = same t u i j (ap (λ (n : Node). n.group) e) (ap (λ (n : Node). n.left) e) (ap (λ (n : Node). n.right) e)
-    where
-      same : (t u : Span) → IsThere plan t → IsThere plan u → (node_of plan t).group ≡ (node_of plan u).group → (node_of plan t).left ≡ (node_of plan u).left → (node_of plan t).right ≡ (node_of plan u).right → t ≡ u
-      same (of_slot s l p) (of_slot z m r) i j a b c = cc (a, b, c)
-      same (of_slot s l p) (of_rule z m r) i j a b c = absurd (omega (arith, i, a))
-      same (of_rule s l p) (of_slot z m r) i j a b c = absurd (omega (arith, j, a))
-      same (of_rule s l p) (of_rule z m r) i j a b c = let g : s ≡ z = omega (arith, a) in cc (g, b, c)
+  -- no number is that of two spans
+  pub one_span : (spans : List Span) (v : ℕ) (t u : Span) → At spans v t → At spans v u → t ≡ u
+  one_span spans v t u a b = sym a.1 ∙ b.1
 
-  -- no node is two spans
-  pub one_span : (nodes : List Node) (v : ℕ) (t u : Span) → At plan nodes v t → At plan nodes v u → t ≡ u
-  one_span nodes v t u a b = same_span_of t u a.1 b.1 (sym a.2 ∙ b.2)
-
-  module _ (nodes : List Node) (edges : List Edge) (raised : List Bool) (graph : IsGraph plan nodes edges raised) where
+  module _ (spans : List Span) (edges : List Edge) (raised : List Bool) (graph : IsGraph plan spans edges raised) where
     -- what one edge gives, by what its parts give
-    edge_has : (v h n h1 h2 : ℕ) (t : Span) → At plan nodes v t → n < length edges → (get_or edges n no_edge).to ≡ v → ((o : Option Span) → PartAt plan nodes (get_or edges n no_edge).one o → PartHas o h1) → ((o : Option Span) → PartAt plan nodes (get_or edges n no_edge).two o → PartHas o h2) →
+    edge_has : (v h n h1 h2 : ℕ) (t : Span) → At spans v t → n < length edges → (get_or edges n no_edge).to ≡ v → ((o : Option Span) → PartAt spans (get_or edges n no_edge).one o → PartHas o h1) → ((o : Option Span) → PartAt spans (get_or edges n no_edge).two o → PartHas o h2) →
         h ≡ raise (get_or raised v false) (max h1 h2) → HasHeight plan t h
     edge_has v h n h1 h2 t at i to one two e =
         let s = graph.sound n i in
-        let same : s.0 ≡ t = one_span nodes v s.0 t (subst (λ (z : ℕ). At plan nodes z s.0) to s.4.to) at in
+        let same : s.0 ≡ t = one_span spans v s.0 t (subst (λ (z : ℕ). At spans z s.0) to s.4.to) at in
         let up : get_or raised v false ≡ is_raised plan t = graph.up v t at in
         let has : HasHeight plan s.0 (raise (is_raised plan s.0) (max h1 h2)) = way_has s.0 s.1 s.2 h1 h2 s.3 (one s.1 s.4.one_at) (two s.2 s.4.two_at) in
         let on : HasHeight plan t (raise (is_raised plan t) (max h1 h2)) = subst (λ (z : Span). HasHeight plan z (raise (is_raised plan z) (max h1 h2))) same has in
         subst (λ (z : ℕ). HasHeight plan t z) (sym (e ∙ ap (λ b. raise b (max h1 h2)) up)) on
 
-    none_has : (o : Option ℕ) (h : ℕ) → o ≡ None → h ≡ 0 → (w : Option Span) → PartAt plan nodes o w → PartHas w h
+    none_has : (o : Option ℕ) (h : ℕ) → o ≡ None → h ≡ 0 → (w : Option Span) → PartAt spans o w → PartHas w h
     none_has None h e z None at = z
     none_has None h e z (Some t) at = absurd at
     none_has (Some v) h e z w at = absurd (cc e)
 
-    some_has : (o : Option ℕ) (v h : ℕ) → o ≡ Some v → ((t : Span) → At plan nodes v t → HasHeight plan t h) → (w : Option Span) → PartAt plan nodes o w → PartHas w h
+    some_has : (o : Option ℕ) (v h : ℕ) → o ≡ Some v → ((t : Span) → At spans v t → HasHeight plan t h) → (w : Option Span) → PartAt spans o w → PartHas w h
     some_has None v h e f w at = absurd (cc e)
     some_has (Some n) v h e f None at = absurd at
-    some_has (Some n) v h e f (Some t) at = f t (subst (λ (z : ℕ). At plan nodes z t) (cc e) at)
+    some_has (Some n) v h e f (Some t) at = f t (subst (λ (z : ℕ). At spans z t) (cc e) at)
 
     mutual
-      pub low_has : (v h : ℕ) → Low edges raised v h → (t : Span) → At plan nodes v t → HasHeight plan t h
+      pub low_has : (v h : ℕ) → Low edges raised v h → (t : Span) → At spans v t → HasHeight plan t h
       low_has v h (by_edge _ _ n h1 h2 i to one two e) t at = edge_has v h n h1 h2 t at i to (part_has (get_or edges n no_edge).one h1 one) (part_has (get_or edges n no_edge).two h2 two) e
 
-      part_has : (o : Option ℕ) (h : ℕ) → LowPart edges raised o h → (w : Option Span) → PartAt plan nodes o w → PartHas w h
+      part_has : (o : Option ℕ) (h : ℕ) → LowPart edges raised o h → (w : Option Span) → PartAt spans o w → PartHas w h
       part_has o h (no_part _ _ e z) w at = none_has o h e z w at
       part_has o h (part _ v _ e low) w at = some_has o v h e (low_has v h low) w at

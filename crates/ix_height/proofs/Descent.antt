@@ -22,10 +22,13 @@ use Rattle.ix_closure_laws.proofs.TreesClosed.{node_closed, covered_part}
 use Rattle.ix_closure_laws.proofs.Reaching.{reached_part, rule_called, useful_reached}
 use Rattle.ix_closure_laws.proofs.Frames.{useful_of}
 use Rattle.ix_height.specs.declared.edge.Edge.{Edge}
-use Rattle.ix_height.specs.declared.edge.Node.{Node}
+use Rattle.ix_height.specs.declared.span.Span.{Span}
+use Rattle.ix_height.specs.declared.span.Owner.{Owner}
+use Rattle.ix_height.specs.declared.span.Owner.TheVariants as owner
 use Rattle.ix_model.specs.Expansion.FlatHeights.{flat_height, flat_heights}
 use Rattle.ix_height.specs.Low.{raise, no_edge, Low, by_edge, LowPart, no_part, part}
-use Rattle.ix_height.specs.Spans.{is_named, Span, of_slot, of_rule, HasHeight, IsOfUse, is_raised}
+use Rattle.ix_height.specs.Spans.{is_named, of_slot, of_rule, IsOfUse, IsOwnerOfUse, is_raised}
+use Rattle.ix_height.specs.Heights.{HasHeight, HasOwnerHeight}
 use Rattle.ix_height.specs.Ways.{Before, Child, Way, empty, step, whole}
 use Rattle.ix_height.specs.Graph.{At, PartAt, IsGraph}
 use Rattle.ix_height.specs.HeightLaws.{LowIsHeight}
@@ -47,20 +50,20 @@ module _ (plan : Parts) (planned : IsPlanned plan) where
       let f = part_called plan s l k p (reached_part plan planned s l k p h) in
       subst (λ (z : ℕ). Called plan z l) (same_slot plan s f.0 f.1 f.2 c.0 c.1 (flat_count ds) f.3 c.3).0 f.4
 
-  module _ (nodes : List Node) (edges : List Edge) (raised : List Bool) (graph : IsGraph plan nodes edges raised) where
+  module _ (spans : List Span) (edges : List Edge) (raised : List Bool) (graph : IsGraph plan spans edges raised) where
     abbrev pub LowAt : Span → ℕ → Type 0
-    LowAt t h = (v : ℕ) × At plan nodes v t × Low edges raised v h
+    LowAt t h = (v : ℕ) × At spans v t × Low edges raised v h
 
     abbrev PartLow : Option Span → ℕ → Type 0
     PartLow None h = h ≡ 0
     PartLow (Some t) h = LowAt t h
 
-    part_low : (o : Option ℕ) (w : Option Span) (h : ℕ) → PartAt plan nodes o w → PartLow w h → LowPart edges raised o h
+    part_low : (o : Option ℕ) (w : Option Span) (h : ℕ) → PartAt spans o w → PartLow w h → LowPart edges raised o h
     part_low None None h at low = no_part None h refl low
     part_low None (Some t) h at low = absurd at
     part_low (Some v) None h at low = absurd at
     part_low (Some v) (Some t) h at low =
-        let e : low.0 ≡ v = graph.distinct low.0 v low.1.0 at.0 (low.1.2 ∙ sym at.2) in
+        let e : low.0 ≡ v = graph.distinct low.0 v low.1.0 at.0 (low.1.1 ∙ sym at.1) in
         part (Some v) v h refl (subst (λ (z : ℕ). Low edges raised z h) e low.2)
 
     way_low : (t : Span) (one two : Option Span) (h g : ℕ) → Way plan t one two → PartLow one h → PartLow two g → LowAt t (raise (is_raised plan t) (max h g))
@@ -93,11 +96,11 @@ module _ (plan : Parts) (planned : IsPlanned plan) where
         let reached : SubReached plan v l first.0 k = as_prefix v s l first.0 k p x w n other in
         (Some (of_slot v l k), inr (first.0, useful_of plan planned v l first.0 k reached, refl), low first.0 reached covers)
 
-    child_low : (d : FlatTree) (x : Sym) (k p : ℕ) → FlatDerives plan d x k p → ((q : ℕ) (m : Option Mark) → x ≡ sy.Rule q m → FlatDerives plan d (sy.Rule q m) k p → LowAt (of_rule q k p) (flat_height plan.rules d)) → (two : Option Span) × Child plan x k p two × PartLow two (flat_height plan.rules d)
-    child_low (flat_text a b) x k p t low = (None, subst (λ (z : Sym). Child plan z k p None) (sym t.2.3) refl, refl)
-    child_low flat_insertion x k p t low = (None, subst (λ (z : Sym). Child plan z k p None) (sym t.1) refl, refl)
+    child_low : (d : FlatTree) (x : Sym) (k p : ℕ) → FlatDerives plan d x k p → ((q : ℕ) (m : Option Mark) → x ≡ sy.Rule q m → FlatDerives plan d (sy.Rule q m) k p → LowAt (of_rule q k p) (flat_height plan.rules d)) → (two : Option Span) × Child x k p two × PartLow two (flat_height plan.rules d)
+    child_low (flat_text a b) x k p t low = (None, subst (λ (z : Sym). Child z k p None) (sym t.2.3) refl, refl)
+    child_low flat_insertion x k p t low = (None, subst (λ (z : Sym). Child z k p None) (sym t.1) refl, refl)
     child_low (flat_node q a ds) x k p t low =
-        (Some (of_rule q k p), subst (λ (z : Sym). Child plan z k p (Some (of_rule q k p))) (sym t.1) refl, low q t.0 t.1 (subst (λ (z : Sym). FlatDerives plan (flat_node q a ds) z k p) t.1 t))
+        (Some (of_rule q k p), subst (λ (z : Sym). Child z k p (Some (of_rule q k p))) (sym t.1) refl, low q t.0 t.1 (subst (λ (z : Sym). FlatDerives plan (flat_node q a ds) z k p) t.1 t))
 
     more_low : (ds : FlatTrees) (d : FlatTree) (s l p k : ℕ) → SubReached plan s l k p → Covers plan s (flats_and ds d) l p →
         ((v m j : ℕ) → SubReached plan v l j m → Covers plan v ds l m → LowAt (of_slot v l m) (flat_heights plan.rules ds)) →
@@ -136,8 +139,11 @@ module _ (plan : Parts) (planned : IsPlanned plan) where
           subst (λ (z : ℕ). LowAt (of_rule q l p) (flat_height plan.rules (flat_node z a ds))) (sym e) low
 
     of_use : (t : Span) (h : ℕ) → IsOfUse plan t → HasHeight plan t h → LowAt t h
-    of_use (of_slot s l p) h u t = subst (λ (z : ℕ). LowAt (of_slot s l p) z) t.2 (trees_low t.0 s l p u.0 (useful_reached plan planned (sub_at s l u.0 p) u.1) t.1)
-    of_use (of_rule q l p) h u t = subst (λ (z : ℕ). LowAt (of_rule q l p) z) t.2 (tree_low t.0 q l p None (last_reached u.0 l u.1 p q u.2 (useful_reached plan planned (sub_at u.0 l u.1 p) u.3)) t.1)
+    of_use t h = go t.owner t.left t.right
+      where
+        go : (o : Owner) (l p : ℕ) → IsOwnerOfUse plan o l p → HasOwnerHeight plan o l p h → LowAt (record { owner = o; left = l; right = p }) h
+        go (owner.Slot s) l p u t = subst (λ (z : ℕ). LowAt (of_slot s l p) z) t.2 (trees_low t.0 s l p u.0 (useful_reached plan planned (sub_at s l u.0 p) u.1) t.1)
+        go (owner.Rule q) l p u t = subst (λ (z : ℕ). LowAt (of_rule q l p) z) t.2 (tree_low t.0 q l p None (last_reached u.0 l u.1 p q u.2 (useful_reached plan planned (sub_at u.0 l u.1 p) u.3)) t.1)
 
-    pub is_height : LowIsHeight plan nodes edges raised
-    is_height = record { tree = λ v t h at low. low_has plan planned nodes edges raised graph v h low t at; low = of_use }
+    pub is_height : LowIsHeight plan spans edges raised
+    is_height = record { tree = λ v t h at low. low_has plan planned spans edges raised graph v h low t at; low = of_use }

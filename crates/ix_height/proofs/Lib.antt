@@ -5,7 +5,7 @@ pub mod Gathering
 pub mod Graphing
 pub mod Indexing
 pub mod Linking
+pub mod Places
 pub mod Points
-pub mod Rising
 pub mod Settling
 pub mod Uses

@@ -24,14 +24,13 @@ use Rattle.ix_closure_laws.proofs.TreesClosed.{node_closed, covered_part}
 use Rattle.ix_closure_laws.proofs.Reaching.{reached_part, rule_called, useful_reached}
 use Rattle.ix_closure_laws.proofs.Frames.{useful_of}
 use Rattle.ix_height.specs.declared.edge.Edge.{Edge}
-use Rattle.ix_height.specs.declared.edge.Node.{Node}
-use Rattle.ix_height.specs.Spans.{Span, of_slot, of_rule, IsOfUse, IsThere, node_of}
+use Rattle.ix_height.specs.declared.span.Span.{Span}
+use Rattle.ix_height.specs.Spans.{of_slot, of_rule, slot_span, IsOfUse}
 use Rattle.ix_height.specs.Ways.{Before, Child, Way, empty, step, whole}
-use Rattle.ix_height.specs.Graph.{no_node, At, PartAt, IsEdgeOf}
-use Rattle.ix_height.proofs.Ascent.{same_span_of}
+use Rattle.ix_height.specs.Graph.{no_span, At, PartAt, IsEdgeOf}
 use Rattle.ix_height.proofs.Descent.{called_by}
-use Rattle.ix_height.specs.Nodes.{IsNumberOf, AreNodes}
-use Rattle.ix_height.specs.Edges.{IsStep, slot_span, IsStepEdge, IsWholeEdge}
+use Rattle.ix_height.specs.SpanLists.{AreSpans}
+use Rattle.ix_height.specs.Edges.{IsStep, IsStepEdge, IsWholeEdge}
 
 module _ (plan : Parts) (planned : IsPlanned plan) where
   reach : (sub : Sub) → Useful plan sub → SubReached plan sub.slot sub.left sub.pivot sub.right
@@ -77,7 +76,7 @@ module _ (plan : Parts) (planned : IsPlanned plan) where
       t : (ds : FlatTrees) × Covers plan sub.slot ds sub.left sub.right × IsLastFrom plan ds sub.slot sub.left sub.pivot sub.right
       t = part_trees plan sub.slot sub.left sub.pivot sub.right (part_of sub u)
 
-      child : (x : Sym) → (two : Option Span) × Child plan x sub.pivot sub.right two
+      child : (x : Sym) → (two : Option Span) × Child x sub.pivot sub.right two
       child (sy.Term n w) = (None, refl)
       child (sy.Rule q m) = (Some (of_rule q sub.pivot sub.right), refl)
       child (sy.Insert n) = (None, refl)
@@ -102,77 +101,70 @@ module _ (plan : Parts) (planned : IsPlanned plan) where
           (one.0, two.0, inr (v.slot, c.5.1, v.next, one.1, two.1))
 
   -- a step is a way
-  pub step_way : (sub : Sub) (one two : Option Span) → Useful plan sub → IsStep plan sub one two → Way plan (slot_span plan sub) one two
+  pub step_way : (sub : Sub) (one two : Option Span) → Useful plan sub → IsStep plan sub one two → Way plan (slot_span sub) one two
   step_way sub one two u (inl h) =
       let a : Useful plan (sub_at sub.slot sub.left sub.left sub.left) = subst (λ (z : ℕ). Useful plan (sub_at sub.slot sub.left sub.left z)) h.4 (subst (λ (z : ℕ). Useful plan (sub_at sub.slot sub.left z sub.right)) h.3 u) in
       let b : Way plan (of_slot sub.slot sub.left sub.left) None None = empty h.0 sub.slot sub.left a h.1 h.2 in
-      let c : Way plan (slot_span plan sub) None None = subst (λ (z : ℕ). Way plan (of_slot sub.slot sub.left z) None None) (sym h.4) b in
-      subst (λ (z : Option Span). Way plan (slot_span plan sub) z two) (sym h.5) (subst (λ (z : Option Span). Way plan (slot_span plan sub) None z) (sym h.6) c)
+      let c : Way plan (slot_span sub) None None = subst (λ (z : ℕ). Way plan (of_slot sub.slot sub.left z) None None) (sym h.4) b in
+      subst (λ (z : Option Span). Way plan (slot_span sub) z two) (sym h.5) (subst (λ (z : Option Span). Way plan (slot_span sub) None z) (sym h.6) c)
   step_way sub one two u (inr h) = step h.0 sub.slot sub.left sub.pivot sub.right h.1 one two u h.2 h.3 h.4
 
-  pub whole_way : (sub : Sub) (q : ℕ) → Useful plan sub → IsLastSlot plan sub.slot q → Way plan (of_rule q sub.left sub.right) (Some (slot_span plan sub)) None
+  pub whole_way : (sub : Sub) (q : ℕ) → Useful plan sub → IsLastSlot plan sub.slot q → Way plan (of_rule q sub.left sub.right) (Some (slot_span sub)) None
   whole_way sub q u h = whole q sub.slot sub.left sub.pivot sub.right u h
 
   -- ---- the edges' ends
 
-  module _ (nodes : List Node) (are : AreNodes plan nodes) where
-    pub slot_at : (v s l p : ℕ) → s < length plan.slots → IsNumberOf nodes (node_of plan (of_slot s l p)) v → At plan nodes v (of_slot s l p)
-    slot_at v s l p h n = (n.0, h, n.1)
+  module _ (spans : List Span) (are : AreSpans plan spans) where
+    pub there_of_use : (t : Span) → IsOfUse plan t → Contains spans t
+    there_of_use t u = (are.same t).1 u
 
-    pub rule_at : (v q l p : ℕ) → IsNumberOf nodes (node_of plan (of_rule q l p)) v → At plan nodes v (of_rule q l p)
-    rule_at v q l p n = (n.0, tt, n.1)
+    pub at_contains : (t : Span) (v : ℕ) → At spans v t → Contains spans t
+    at_contains t v at = (v, at.0, get_or_default spans v t no_span at.0 ∙ at.1)
 
-    pub of_use_there : (t : Span) → IsOfUse plan t → Contains nodes (node_of plan t)
-    of_use_there t u = are.into t u
+    pub at_use : (t : Span) (v : ℕ) → At spans v t → IsOfUse plan t
+    at_use t v at = (are.same t).0 (at_contains t v at)
 
-    pub there_of_use : (t : Span) → IsThere plan t → Contains nodes (node_of plan t) → IsOfUse plan t
-    there_of_use t i h =
-        let f = are.from (node_of plan t) h in
-        subst (λ (z : Span). IsOfUse plan z) (sym (same_span_of plan planned t f.0 i f.2 f.3)) f.1
+    -- an option that finds a span
+    abbrev pub Finds : Option ℕ → Span → Type 0
+    Finds o t = IfSome o (λ v. At spans v t) × (o ≡ None → Contains spans t → ⊥)
 
-    -- an option that finds a node
-    abbrev pub Finds : Option ℕ → Node → Type 0
-    Finds o x = IfSome o (λ v. IsNumberOf nodes x v) × (o ≡ None → Contains nodes x → ⊥)
+    before_at : (v s l k : ℕ) (x : Sym) (o : Option ℕ) (one : Option Span) → HasNext plan v s x → Finds o (of_slot v l k) → Before plan v l k one → PartAt spans o one
+    before_at v s l k x None one n f (inl b) = subst (λ (z : Option Span). PartAt spans None z) (sym b.2) tt
+    before_at v s l k x (Some u) one n f (inl b) = let w = at_use (of_slot v l k) u f.0 in absurd (first_useless v s b.0.0 l w.0 k x b.0.1 n w.1)
+    before_at v s l k x None one n f (inr b) = absurd (f.1 refl (there_of_use (of_slot v l k) (b.0, b.1)))
+    before_at v s l k x (Some u) one n f (inr b) = subst (λ (z : Option Span). PartAt spans (Some u) z) (sym b.2) f.0
 
-    before_at : (v s l j k : ℕ) (x : Sym) (o : Option ℕ) (one : Option Span) → v < length plan.slots → HasNext plan v s x → Finds o (node_of plan (of_slot v l k)) → Before plan v l k one → PartAt plan nodes o one
-    before_at v s l j k x None one i n f (inl b) = subst (λ (z : Option Span). PartAt plan nodes None z) (sym b.2) tt
-    before_at v s l j k x (Some u) one i n f (inl b) =
-        let w = there_of_use (of_slot v l k) i (u, f.0.0, get_or_default nodes u (node_of plan (of_slot v l k)) no_node f.0.0 ∙ f.0.1) in
-        absurd (first_useless v s b.0.0 l w.0 k x b.0.1 n w.1)
-    before_at v s l j k x None one i n f (inr b) = absurd (f.1 refl (are.into (of_slot v l k) (b.0, b.1)))
-    before_at v s l j k x (Some u) one i n f (inr b) = subst (λ (z : Option Span). PartAt plan nodes (Some u) z) (sym b.2) (f.0.0, i, f.0.1)
-
-    pub next_edge : (sub : Sub) (e : Edge) (v : ℕ) (x : Sym) → sub.slot < length plan.slots → IsNumberOf nodes (node_of plan (slot_span plan sub)) e.to → v + 1 ≡ sub.slot → HasNext plan v sub.slot x → Finds e.one (node_of plan (of_slot v sub.left sub.pivot)) →
-        ((two : Option Span) → Child plan x sub.pivot sub.right two → PartAt plan nodes e.two two) → IsStepEdge plan nodes sub e
-    next_edge sub e v x i to v_is n finds child = go
+    pub next_edge : (sub : Sub) (e : Edge) (v : ℕ) (x : Sym) → At spans e.to (slot_span sub) → v + 1 ≡ sub.slot → HasNext plan v sub.slot x → Finds e.one (of_slot v sub.left sub.pivot) →
+        ((two : Option Span) → Child x sub.pivot sub.right two → PartAt spans e.two two) → IsStepEdge plan spans sub e
+    next_edge sub e v x to v_is n finds child = go
       where
-        go : (one two : Option Span) → IsStep plan sub one two → IsEdgeOf plan nodes e (slot_span plan sub) one two
+        go : (one two : Option Span) → IsStep plan sub one two → IsEdgeOf spans e (slot_span sub) one two
         go one two (inl h) = absurd (omega (arith, v_is, (same_slot plan sub.slot h.0 h.1.0 0 n.0 n.1 (n.2 + 1) h.1.2 n.5).2))
         go one two (inr h) =
             let s : h.0 ≡ v = same_before plan planned h.0 v sub.slot h.1 x h.2 n in
             let m : HasNext plan v sub.slot h.1 = subst (λ (z : ℕ). HasNext plan z sub.slot h.1) s h.2 in
             let y : h.1 ≡ x = cc ((next_reads plan planned v sub.slot h.1 m).1, (next_reads plan planned v sub.slot x n).1) in
             record {
-              to = (to.0, i, to.1);
-              one_at = before_at v sub.slot sub.left sub.pivot sub.pivot x e.one one (omega (arith, i, v_is)) n finds (subst (λ (z : ℕ). Before plan z sub.left sub.pivot one) s h.3);
-              two_at = child two (subst (λ (z : Sym). Child plan z sub.pivot sub.right two) y h.4);
+              to = to;
+              one_at = before_at v sub.slot sub.left sub.pivot x e.one one n finds (subst (λ (z : ℕ). Before plan z sub.left sub.pivot one) s h.3);
+              two_at = child two (subst (λ (z : Sym). Child z sub.pivot sub.right two) y h.4);
             }
 
-    pub first_edge : (sub : Sub) (e : Edge) → sub.slot < length plan.slots → IsNumberOf nodes (node_of plan (slot_span plan sub)) e.to → ((v : ℕ) (x : Sym) → HasNext plan v sub.slot x → ⊥) → e.one ≡ None → e.two ≡ None → IsStepEdge plan nodes sub e
-    first_edge sub e i to none a b = go
+    pub first_edge : (sub : Sub) (e : Edge) → At spans e.to (slot_span sub) → ((v : ℕ) (x : Sym) → HasNext plan v sub.slot x → ⊥) → e.one ≡ None → e.two ≡ None → IsStepEdge plan spans sub e
+    first_edge sub e to none a b = go
       where
-        go : (one two : Option Span) → IsStep plan sub one two → IsEdgeOf plan nodes e (slot_span plan sub) one two
-        go one two (inr h) = absurd (none h.0 h.1 h.2)
-        go one two (inl h) = record { to = (to.0, i, to.1); one_at = nothing e.one one a h.5; two_at = nothing e.two two b h.6 }
-          where
-            nothing : (o : Option ℕ) (w : Option Span) → o ≡ None → w ≡ None → PartAt plan nodes o w
-            nothing None None p q = tt
-            nothing None (Some t) p q = absurd (cc q)
-            nothing (Some z) w p q = absurd (cc p)
+        nothing : (o : Option ℕ) (w : Option Span) → o ≡ None → w ≡ None → PartAt spans o w
+        nothing None None p q = tt
+        nothing None (Some t) p q = absurd (cc q)
+        nothing (Some z) w p q = absurd (cc p)
 
-    pub whole_edge : (sub : Sub) (e : Edge) (q v : ℕ) → sub.slot < length plan.slots → IsNumberOf nodes (node_of plan (of_rule q sub.left sub.right)) e.to → e.one ≡ Some v → IsNumberOf nodes (node_of plan (slot_span plan sub)) v → e.two ≡ None → IsWholeEdge plan nodes sub q e
-    whole_edge sub e q v i to one n two = record {
-      to = (to.0, tt, to.1);
-      one_at = subst (λ (z : Option ℕ). PartAt plan nodes z (Some (slot_span plan sub))) (sym one) (n.0, i, n.1);
-      two_at = subst (λ (z : Option ℕ). PartAt plan nodes z None) (sym two) tt;
+        go : (one two : Option Span) → IsStep plan sub one two → IsEdgeOf spans e (slot_span sub) one two
+        go one two (inr h) = absurd (none h.0 h.1 h.2)
+        go one two (inl h) = record { to = to; one_at = nothing e.one one a h.5; two_at = nothing e.two two b h.6 }
+
+    pub whole_edge : (sub : Sub) (e : Edge) (q v : ℕ) → At spans e.to (of_rule q sub.left sub.right) → e.one ≡ Some v → At spans v (slot_span sub) → e.two ≡ None → IsWholeEdge plan spans sub q e
+    whole_edge sub e q v to one at two = record {
+      to = to;
+      one_at = subst (λ (z : Option ℕ). PartAt spans z (Some (slot_span sub))) (sym one) at;
+      two_at = subst (λ (z : Option ℕ). PartAt spans z None) (sym two) tt;
     }

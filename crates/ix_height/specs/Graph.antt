@@ -1,19 +1,20 @@
--- A graph whose nodes are the useful spans and whose edges are their ways.
+-- A graph of spans, by their numbers in a list: its edges are the ways.
 use Rattle.std.specs.Prelude.{◌≡◌, ℕ, ◌<◌, Bool, false, List, length, get_or, Option, Some, None}
 use Rattle.ix_model.specs.Expansion.Parts.{Parts}
 use Rattle.ix_height.specs.declared.edge.Edge.{Edge}
-use Rattle.ix_height.specs.declared.edge.Node.{Node}
+use Rattle.ix_height.specs.declared.span.Span.{Span}
 use Rattle.ix_height.specs.Low.{no_edge}
-use Rattle.ix_height.specs.Spans.{Span, IsThere, node_of, is_raised}
+use Rattle.ix_height.specs.Spans.{of_slot, is_raised}
 use Rattle.ix_height.specs.Ways.{Way}
 
-abbrev pub no_node : Node
-no_node = record { group = 0; left = 0; right = 0 }
+-- a default where a list has no span
+abbrev pub no_span : Span
+no_span = of_slot 0 0 0
 
-module _ (plan : Parts) (nodes : List Node) where
-  -- node v is the span t
+module _ (spans : List Span) where
+  -- span number v is t
   abbrev pub At : ℕ → Span → Type 0
-  At v t = (v < length nodes) × IsThere plan t × (get_or nodes v no_node ≡ node_of plan t)
+  At v t = (v < length spans) × (get_or spans v no_span ≡ t)
 
   -- both are there or neither, and then they agree
   abbrev pub PartAt : Option ℕ → Option Span → Type 0
@@ -28,8 +29,9 @@ module _ (plan : Parts) (nodes : List Node) where
     pub one_at : PartAt e.one one
     pub two_at : PartAt e.two two
 
+module _ (plan : Parts) (spans : List Span) where
   pub record IsGraph (edges : List Edge) (raised : List Bool) : Type 0 where
-    pub distinct : (v w : ℕ) → v < length nodes → w < length nodes → get_or nodes v no_node ≡ get_or nodes w no_node → v ≡ w
-    pub up : (v : ℕ) (t : Span) → At v t → get_or raised v false ≡ is_raised plan t
-    pub sound : (n : ℕ) → n < length edges → (t : Span) × (one two : Option Span) × Way plan t one two × IsEdgeOf (get_or edges n no_edge) t one two
-    pub complete : (t : Span) (one two : Option Span) → Way plan t one two → (n : ℕ) × (n < length edges) × IsEdgeOf (get_or edges n no_edge) t one two
+    pub distinct : (v w : ℕ) → v < length spans → w < length spans → get_or spans v no_span ≡ get_or spans w no_span → v ≡ w
+    pub up : (v : ℕ) (t : Span) → At spans v t → get_or raised v false ≡ is_raised plan t
+    pub sound : (n : ℕ) → n < length edges → (t : Span) × (one two : Option Span) × Way plan t one two × IsEdgeOf spans (get_or edges n no_edge) t one two
+    pub complete : (t : Span) (one two : Option Span) → Way plan t one two → (n : ℕ) × (n < length edges) × IsEdgeOf spans (get_or edges n no_edge) t one two

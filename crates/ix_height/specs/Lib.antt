@@ -1,13 +1,13 @@
 pub mod Edges
 pub mod Graph
 pub mod HeightLaws
+pub mod HeightLists
 pub mod Heights
 pub mod Index
 pub mod Links
 pub mod Low
-pub mod Nodes
 pub mod Progress
-pub mod Raised
+pub mod SpanLists
 pub mod Spans
 pub mod Ways
 pub mod Work

@@ -6,18 +6,19 @@ use Rattle.ix_model.specs.declared.rules.Sym.TheVariants as sym
 use Rattle.ix_model.specs.Expansion.Parts.{Parts}
 use Rattle.ix_model.specs.Expansion.SlotPlaces.{IsFirstSlot, IsLastSlot, HasNext}
 use Rattle.ix_model.specs.Closure.Useful.{sub_at, Useful}
-use Rattle.ix_height.specs.Spans.{Span, of_slot, of_rule}
+use Rattle.ix_height.specs.declared.span.Span.{Span}
+use Rattle.ix_height.specs.Spans.{of_slot, of_rule}
+
+-- the last symbol's span, if it is a rule
+abbrev pub Child : Sym → ℕ → ℕ → Option Span → Type 0
+Child (sym.Term n shown) k p two = two ≡ None
+Child (sym.Rule q mark) k p two = two ≡ Some (of_rule q k p)
+Child (sym.Insert n) k p two = two ≡ None
 
 module _ (plan : Parts) where
   -- what stands before the last symbol: nothing, or the useful span of the slot before it
   abbrev pub Before : ℕ → ℕ → ℕ → Option Span → Type 0
   Before v l k one = (((r : ℕ) × IsFirstSlot plan v r) × (l ≡ k) × (one ≡ None)) ⊎ ((j : ℕ) × Useful plan (sub_at v l j k) × (one ≡ Some (of_slot v l k)))
-
-  -- the last symbol's span, if it is a rule
-  abbrev pub Child : Sym → ℕ → ℕ → Option Span → Type 0
-  Child (sym.Term n shown) k p two = two ≡ None
-  Child (sym.Rule q mark) k p two = two ≡ Some (of_rule q k p)
-  Child (sym.Insert n) k p two = two ≡ None
 
   pub data Way : Span → Option Span → Option Span → Type 0 where
     -- an empty alternative

@@ -1,5 +1,6 @@
 ghost use Rattle.std.specs.Prelude.{◌≡◌, ◌<◌, ◌+◌, ◌^◌, ◌++◌, [], ◌∷◌, ℕ, Option, Some, None, IfOk, OnOk, IfSome, length};
 ghost use Rattle.std.specs.List.{Contains};
+ghost use Rattle.std.specs.List.Sorted.{IsStrictlySortedBy};
 ghost use Rattle.std.specs.Option.{option_to_list};
 ghost use Rattle.ix_model.specs.declared.grammar.Mark.{Mark as AMark};
 ghost use Rattle.ix_model.specs.declared.rules.Sym.{Sym as ASym};
@@ -8,15 +9,16 @@ ghost use Rattle.ix_model.specs.Expansion.Planned.{IsPlanned};
 ghost use Rattle.ix_model.specs.Expansion.SlotPlaces.{HasNext, IsLastSlot};
 ghost use Rattle.ix_model.specs.Closure.Useful.{Useful};
 ghost use Rattle.ix_subtrees.specs.Sets.{IsSetOf};
-ghost use Rattle.ix_height.specs.Spans.{Span, of_slot, of_rule, node_of};
+ghost use Rattle.ix_height.specs.Spans.{of_rule};
 ghost use Rattle.ix_height.specs.Ways.{Before, Child};
 ghost use Rattle.ix_height.specs.Graph.{PartAt};
-ghost use Rattle.ix_height.specs.Nodes.{AreNodes};
+ghost use Rattle.ix_height.specs.declared.span.Span.{Span as ASpan};
+ghost use Rattle.ix_height.specs.SpanLists.{span_cmp, AreSpans};
 ghost use Rattle.ix_height.specs.Edges.{IsStepEdge, IsWholeEdge, EdgesSoFar};
 
-use crate::node::{rule_node, slot_node, whole_node};
-use crate::nodes::{find, number_of};
-use crate::edge::{Edge, Node};
+use crate::edge::Edge;
+use crate::span::{Span, slot_span, whole_span};
+use crate::spans::{find, number_of};
 use ix_model::{Plan, Sub, Sym};
 use ix_subtrees::SubSet;
 use std::alloc::{AllocError, Global};
@@ -31,32 +33,29 @@ fn symbol_before(plan: &Plan, slot: u32) -> Option<Sym>
     if slot == 0 { None } else { plan.sym(slot - 1) }
 }
 
-// The node of the symbol over the span, if it is a rule.
-fn child_of(plan: &Plan, nodes: &[Node], sym: Sym, left: u32, right: u32) -> Option<u32>
-    requires nodes { AreNodes plan.now nodes.now }
-    requires few { length nodes.now < 2 ^ 32 }
-    requires there { (q : ℕ) (mark : Option AMark) → sym ≡ ARule q mark → Contains nodes.now (node_of plan.now (of_rule q left right)) }
-    ensures { (two : Option Span) → Child plan.now sym left right two → PartAt plan.now nodes.now result two }
+// The span of the symbol, by its number, if the symbol is a rule.
+fn child_of(spans: &[Span], sym: Sym, left: u32, right: u32) -> Option<u32>
+    requires sorted { IsStrictlySortedBy span_cmp spans.now }
+    requires few { length spans.now < 2 ^ 32 }
+    requires there { (q : ℕ) (mark : Option AMark) → sym ≡ ARule q mark → Contains spans.now (of_rule q left right) }
+    ensures { (two : Option ASpan) → Child sym left right two → PartAt spans.now result two }
 {
     match sym {
-        Sym::Rule { rule, mark: _ } => Some(number_of(
-            nodes,
-            rule_node(plan.slot_count(), rule, left, right),
-        )),
+        Sym::Rule { rule, mark: _ } => Some(number_of(spans, Span::of_rule(rule, left, right))),
         _ => None,
     }
 }
 
 // The edge to the subtree's own span.
-fn step_edge(plan: &Plan, nodes: &[Node], sub: Sub) -> Edge
+fn step_edge(plan: &Plan, spans: &[Span], sub: Sub) -> Edge
     requires planned { IsPlanned plan.now }
-    requires nodes { AreNodes plan.now nodes.now }
-    requires few { length nodes.now < 2 ^ 32 }
+    requires spans { AreSpans plan.now spans.now }
+    requires few { length spans.now < 2 ^ 32 }
     requires slot { sub.slot < length plan.now.slots }
     requires useful { Useful plan.now sub }
-    ensures { IsStepEdge plan.now nodes.now sub result }
+    ensures { IsStepEdge plan.now spans.now sub result }
 {
-    let to = number_of(nodes, slot_node(sub.slot, sub.left, sub.right));
+    let to = number_of(spans, slot_span(sub));
     match symbol_before(plan, sub.slot) {
         None => Edge {
             to,
@@ -65,28 +64,28 @@ fn step_edge(plan: &Plan, nodes: &[Node], sub: Sub) -> Edge
         },
         Some(sym) => Edge {
             to,
-            one: find(nodes, slot_node(sub.slot - 1, sub.left, sub.pivot)),
-            two: child_of(plan, nodes, sym, sub.pivot, sub.right),
+            one: find(spans, Span::of_slot(sub.slot - 1, sub.left, sub.pivot)),
+            two: child_of(spans, sym, sub.pivot, sub.right),
         },
     }
 }
 
 // The edge to the rule that the subtree is the whole of, if it is.
-fn whole_edge(plan: &Plan, nodes: &[Node], sub: Sub) -> Option<Edge>
+fn whole_edge(plan: &Plan, spans: &[Span], sub: Sub) -> Option<Edge>
     requires planned { IsPlanned plan.now }
-    requires nodes { AreNodes plan.now nodes.now }
-    requires few { length nodes.now < 2 ^ 32 }
+    requires spans { AreSpans plan.now spans.now }
+    requires few { length spans.now < 2 ^ 32 }
     requires slot { sub.slot < length plan.now.slots }
     requires useful { Useful plan.now sub }
-    ensures some { IfSome result (λ e. (q : ℕ) × IsLastSlot plan.now sub.slot q × IsWholeEdge plan.now nodes.now sub q e) }
-    ensures only { (q : ℕ) → IsLastSlot plan.now sub.slot q → IfSome result (λ e. IsWholeEdge plan.now nodes.now sub q e) }
+    ensures some { IfSome result (λ e. (q : ℕ) × IsLastSlot plan.now sub.slot q × IsWholeEdge plan.now spans.now sub q e) }
+    ensures only { (q : ℕ) → IsLastSlot plan.now sub.slot q → IfSome result (λ e. IsWholeEdge plan.now spans.now sub q e) }
     ensures there { (q : ℕ) → IsLastSlot plan.now sub.slot q → result ≡ None → ⊥ }
 {
-    match whole_node(plan, sub) {
+    match whole_span(plan, sub) {
         None => None,
-        Some(node) => Some(Edge {
-            to: number_of(nodes, node),
-            one: Some(number_of(nodes, slot_node(sub.slot, sub.left, sub.right))),
+        Some(span) => Some(Edge {
+            to: number_of(spans, span),
+            one: Some(number_of(spans, slot_span(sub))),
             two: None,
         }),
     }
@@ -107,21 +106,21 @@ pub fn edges_of(
     alloc: Global,
     plan: &Plan,
     set: &SubSet,
-    nodes: &[Node],
+    spans: &[Span],
 ) -> Result<Vec<Edge>, AllocError>
     requires set { IsSetOf plan.now set.now }
     requires planned { IsPlanned plan.now }
-    requires nodes { AreNodes plan.now nodes.now }
-    requires few { length nodes.now < 2 ^ 32 }
-    ensures { IfOk result (λ v. EdgesSoFar plan.now nodes.now set.now.ways (length set.now.ways) v.items) }
+    requires spans { AreSpans plan.now spans.now }
+    requires few { length spans.now < 2 ^ 32 }
+    ensures { IfOk result (λ v. EdgesSoFar plan.now spans.now set.now.ways (length set.now.ways) v.items) }
 {
     let mut out = Vec::new(alloc);
     for at in 0..set.count() {
         let sub = set.sub(at);
         push_edges(
             &mut out,
-            step_edge(plan, nodes, sub),
-            whole_edge(plan, nodes, sub),
+            step_edge(plan, spans, sub),
+            whole_edge(plan, spans, sub),
         )?;
     }
     Ok(out)

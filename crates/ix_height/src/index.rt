@@ -1,17 +1,16 @@
 ghost use Rattle.std.specs.Prelude.{◌≡◌, ◌<◌, ◌^◌, IfOk, length, map};
-ghost use Rattle.ix_height.specs.declared.edge.Node.{Node as ANode};
-ghost use Rattle.ix_model.specs.Expansion.Planned.{IsPlanned};
 ghost use Rattle.ix_height.specs.Index.{IsIndex};
 ghost use Rattle.ix_height.specs.Work.{AreWithin};
-ghost use Rattle.ix_height.specs.Raised.{is_raised_node, IsNodeThere};
+ghost use Rattle.ix_height.specs.Spans.{is_raised, IsThere};
 ghost use Rattle.std.specs.List.{All};
 
 use crate::link::{links_of, numbers_of, sort_links, starts_of};
-use crate::edge::{Edge, Node};
+use crate::edge::Edge;
+use crate::span::{Owner, Span};
 use ix_model::{Kind, Plan};
 use std::alloc::{AllocError, Global};
 
-/// The edges by the nodes that they come by.
+/// The edges by the spans that they come by.
 #[derive(Debug, Drop)]
 pub struct Index {
     pub starts: Vec<u32>,
@@ -35,30 +34,28 @@ pub fn index_of(alloc: Global, edges: &[Edge], raised: &[bool]) -> Result<Index,
     Ok(Index { starts, numbers })
 }
 
-// Whether the node is the span of a named rule.
-fn is_raised(plan: &Plan, node: Node) -> bool
-    requires { IsNodeThere plan.now node }
-    ensures { result ≡ is_raised_node plan.now node }
+// Whether it is the span of a named rule.
+fn is_raised(plan: &Plan, span: Span) -> bool
+    requires { IsThere plan.now span }
+    ensures { result ≡ is_raised plan.now span }
 {
-    let slots = plan.slot_count() as u64;
-    if node.group < slots {
-        false
-    } else {
-        match plan.kind((node.group - slots) as u32) {
+    match span.owner {
+        Owner::Slot(_) => false,
+        Owner::Rule(rule) => match plan.kind(rule) {
             Kind::Named => true,
             _ => false,
-        }
+        },
     }
 }
 
-/// Which nodes are the spans of named rules.
-pub fn raised_of(alloc: Global, plan: &Plan, nodes: &[Node]) -> Result<Vec<bool>, AllocError>
-    requires { All (IsNodeThere plan.now) nodes.now }
-    ensures { IfOk result (λ v. v.items ≡ map (is_raised_node plan.now) nodes.now) }
+/// Which spans are those of named rules.
+pub fn raised_of(alloc: Global, plan: &Plan, spans: &[Span]) -> Result<Vec<bool>, AllocError>
+    requires { All (IsThere plan.now) spans.now }
+    ensures { IfOk result (λ v. v.items ≡ map (is_raised plan.now) spans.now) }
 {
-    let mut raised = Vec::with_capacity(alloc, nodes.len())?;
-    for node in nodes {
-        raised.push(is_raised(plan, *node))?;
+    let mut raised = Vec::with_capacity(alloc, spans.len())?;
+    for span in spans {
+        raised.push(is_raised(plan, *span))?;
     }
     Ok(raised)
 }

@@ -8,8 +8,8 @@ pub mod laws;
 mod least;
 mod levels;
 mod link;
-mod node;
-mod nodes;
+mod span;
+mod spans;
 mod table;
 
 pub use least::heights;
