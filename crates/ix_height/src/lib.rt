@@ -14,3 +14,6 @@ mod table;
 
 pub use least::heights;
 pub use table::Heights;
+
+#[cfg(test)]
+mod tests;
