@@ -107,6 +107,31 @@ module _ (plan : Parts) (planned : IsPlanned plan) where
       go = subst (λ (z : Sub). IfSome whole (WholeSpan z) → ((q : ℕ) → IsLastSlot plan z.slot q → whole ≡ Some (of_rule q z.left z.right)) → SpansSoFar plan ways (at + 1) ((out ++ slot_span (way_at ways at) ∷ []) ++ option_to_list whole)) (sym same)
           (λ f g. spans_next ways at out whole w b f g r)
 
+  -- nothing new for a subtree whose span is that of an earlier one
+  pub spans_again : (ways : List Entry) (at i : ℕ) (out : List Span) → i < at → slot_span (way_at ways i) ≡ slot_span (way_at ways at) → SpansSoFar plan ways at out → SpansSoFar plan ways (at + 1) out
+  spans_again ways at i out h e r = record { from = r.from; slots = slots'; rules = rules' }
+    where
+      slot : (way_at ways i).slot ≡ (way_at ways at).slot
+      slot = cc (ap (λ (z : Span). z.owner) e)
+
+      slots' : (k : ℕ) → k < at + 1 → Contains out (slot_span (way_at ways k))
+      slots' k b = elim (cases_lt k at) [
+        | inl o ↦ r.slots k o
+        | inr o ↦ let q : at ≡ k = omega (arith, o, b) in subst (λ (z : Span). Contains out z) (e ∙ ap (λ (z : ℕ). slot_span (way_at ways z)) q) (r.slots i h)
+      ]
+
+      here : (q : ℕ) → IsLastSlot plan (way_at ways at).slot q → Contains out (of_rule q (way_at ways at).left (way_at ways at).right)
+      here q last =
+          let old = r.rules i q h (subst (λ (z : ℕ). IsLastSlot plan z q) (sym slot) last) in
+          let same : of_rule q (way_at ways i).left (way_at ways i).right ≡ of_rule q (way_at ways at).left (way_at ways at).right = ap (λ (z : Span). of_rule q z.left z.right) e in
+          subst (λ (z : Span). Contains out z) same old
+
+      rules' : (k q : ℕ) → k < at + 1 → IsLastSlot plan (way_at ways k).slot q → Contains out (of_rule q (way_at ways k).left (way_at ways k).right)
+      rules' k q b last = elim (cases_lt k at) [
+        | inl o ↦ r.rules k q o last
+        | inr o ↦ let same : at ≡ k = omega (arith, o, b) in subst (λ (z : ℕ). IsLastSlot plan (way_at ways z).slot q → Contains out (of_rule q (way_at ways z).left (way_at ways z).right)) same (here q) last
+      ]
+
   -- the place of a useful subtree in the list
   pub way_of : (ways : List Entry) (s l k p : ℕ) → AreWays plan ways → Useful plan (sub_at s l k p) → (i : ℕ) × (i < length ways) × (way_at ways i ≡ sub_at s l k p)
   way_of ways s l k p w u =

@@ -1,13 +1,12 @@
 -- The links in order are an index of the edges.
 use Rattle.std.proofs.Common.{◌≡◌, refl, ap, sym, subst, ◌∙◌, ◌⊎◌, ◌+◌, ◌-◌, ◌≤◌, ◌<◌, ℕ, zero, suc, Bool, List, [], ◌∷◌, ◌++◌, length, Option, Some, None, arith, get_or, take, drop, map}
 use mathlib.Core.Logic.{inl, inr}
-use Rattle.std.specs.List.{Contains}
 use Rattle.std.specs.List.Sorted.{IsPermutation}
 use Rattle.std.proofs.lemmas.List.{get_or_default, get_or_past, get_or-take, get_or-drop, length-map, length-take-le, length-drop}
 use Rattle.std.proofs.Math.ListN.{get_or-map}
-use Rattle.std.proofs.lemmas.List.Elements.{Contains-append_left, Contains-append_right, Contains-append_cases}
+use Rattle.std.proofs.lemmas.List.Elements.{Contains-get_or, Contains-append_left, Contains-append_right, Contains-append_cases}
 use Rattle.std.proofs.lemmas.List.Sorted.{Contains-permutation, IsPermutation-sym}
-use Rattle.ix_model.specs.Matching.Sets.{IsOneOf}
+use Rattle.std.specs.List.{Contains}
 use Rattle.std.proofs.lemmas.Bool.{cases_lt}
 use Rattle.ix_height.specs.declared.edge.Edge.{Edge}
 use Rattle.ix_height.specs.Low.{no_edge}
@@ -15,13 +14,6 @@ use Rattle.ix_height.specs.declared.link.Link.{Link}
 use Rattle.ix_height.specs.Index.{edges_by, IsIndex}
 use Rattle.ix_height.specs.Work.{AreIn, AreWithin}
 use Rattle.ix_height.specs.Links.{by_node, by_edge, link, links_by, link_at, ComesBy, LinksSoFar, IsLowerLink, AreStarts}
-use Rattle.ix_height.proofs.Settling.{is_among}
-
--- the place of one of the numbers
-pub place_of : (n : ℕ) (xs : List ℕ) → IsOneOf n xs → (k : ℕ) × (k < length xs) × (get_or xs k 0 ≡ n)
-place_of n [] h = absurd h
-place_of n (x ∷ xs) (inl e) = (0, omega arith, sym e)
-place_of n (x ∷ xs) (inr h) = let p = place_of n xs h in (suc p.0, omega (arith, p.1), p.2)
 
 make : ℕ → ℕ → Link
 make v n = link v n
@@ -109,7 +101,7 @@ module _ (edges : List Edge) (raised : List Bool) (links : List Link) (starts : 
     number_at : (i : ℕ) → i < get_or starts (v + 1) 0 - get_or starts v 0 → get_or (edges_by starts (map by_edge links) v) i 0 ≡ (link_at links (get_or starts v 0 + i)).edge
     number_at i b = get_or-take (get_or starts (v + 1) 0 - get_or starts v 0) (drop (get_or starts v 0) (map by_edge links)) i 0 b ∙ get_or-drop (get_or starts v 0) (map by_edge links) i 0 ∙ get_or-map by_edge links (get_or starts v 0 + i) (link 0 0)
 
-    complete : (n : ℕ) → n < length edges → ComesBy edges n v → IsOneOf n (edges_by starts (map by_edge links) v)
+    complete : (n : ℕ) → n < length edges → ComesBy edges n v → Contains (edges_by starts (map by_edge links) v) n
     complete n b c =
         let k = all.into n v b c in
         let e : link_at links k.0 ≡ link v n = get_or_default links k.0 (link 0 0) (link v n) k.1 ∙ k.2 in
@@ -119,24 +111,24 @@ module _ (edges : List Edge) (raised : List Bool) (links : List Link) (starts : 
         let i : k.0 - get_or starts v 0 < get_or starts (v + 1) 0 - get_or starts v 0 = omega (arith, x, y) in
         let m : get_or starts v 0 + (k.0 - get_or starts v 0) ≡ k.0 = omega (arith, x) in
         let same : get_or (edges_by starts (map by_edge links) v) (k.0 - get_or starts v 0) 0 ≡ n = number_at (k.0 - get_or starts v 0) i ∙ ap (λ (z : ℕ). (link_at links z).edge) m ∙ ap by_edge e in
-        subst (λ (z : ℕ). IsOneOf z (edges_by starts (map by_edge links) v)) same (is_among (edges_by starts (map by_edge links) v) (k.0 - get_or starts v 0) (omega (arith, i, count)))
+        subst (λ (z : ℕ). Contains (edges_by starts (map by_edge links) v) z) same (Contains-get_or (edges_by starts (map by_edge links) v) (k.0 - get_or starts v 0) 0 (omega (arith, i, count)))
 
-    only : (n : ℕ) → IsOneOf n (edges_by starts (map by_edge links) v) → (n < length edges) × ComesBy edges n v
+    only : (n : ℕ) → Contains (edges_by starts (map by_edge links) v) n → (n < length edges) × ComesBy edges n v
     only n h =
-        let p = place_of n (edges_by starts (map by_edge links) v) h in
-        let i : p.0 < get_or starts (v + 1) 0 - get_or starts v 0 = omega (arith, p.1, count) in
-        let k : get_or starts v 0 + p.0 < length links = omega (arith, i, high.within) in
-        let edge : (link_at links (get_or starts v 0 + p.0)).edge ≡ n = sym (number_at p.0 i) ∙ p.2 in
-        let node : (link_at links (get_or starts v 0 + p.0)).node ≡ v = omega (arith, low.above (get_or starts v 0 + p.0) (omega arith) k, high.below (get_or starts v 0 + p.0) (omega (arith, i))) in
-        let f = all.from (link_at links (get_or starts v 0 + p.0)) (get_or starts v 0 + p.0, k, get_or_default links (get_or starts v 0 + p.0) (link_at links (get_or starts v 0 + p.0)) (link 0 0) k) in
-        (omega (arith, f.0, edge), subst (λ (z : ℕ). ComesBy edges n z) node (subst (λ (z : ℕ). ComesBy edges z (link_at links (get_or starts v 0 + p.0)).node) edge f.1))
+        let i : h.0 < get_or starts (v + 1) 0 - get_or starts v 0 = omega (arith, h.1, count) in
+        let k : get_or starts v 0 + h.0 < length links = omega (arith, i, high.within) in
+        let edge : (link_at links (get_or starts v 0 + h.0)).edge ≡ n = sym (number_at h.0 i) ∙ get_or_default (edges_by starts (map by_edge links) v) h.0 0 n h.1 ∙ h.2 in
+        let node : (link_at links (get_or starts v 0 + h.0)).node ≡ v = omega (arith, low.above (get_or starts v 0 + h.0) (omega arith) k, high.below (get_or starts v 0 + h.0) (omega (arith, i))) in
+        let f = all.from (link_at links (get_or starts v 0 + h.0)) (get_or starts v 0 + h.0, k, get_or_default links (get_or starts v 0 + h.0) (link_at links (get_or starts v 0 + h.0)) (link 0 0) k) in
+        (omega (arith, f.0, edge), subst (λ (z : ℕ). ComesBy edges n z) node (subst (λ (z : ℕ). ComesBy edges z (link_at links (get_or starts v 0 + h.0)).node) edge f.1))
 
   -- behind the last node there are no edges
-  past : (n v : ℕ) → length raised ≤ v → IsOneOf n (edges_by starts (map by_edge links) v) → ⊥
+  past : (n v : ℕ) → length raised ≤ v → Contains (edges_by starts (map by_edge links) v) n → ⊥
   past n v h o =
       let e : get_or starts (v + 1) 0 ≡ 0 = get_or_past starts (v + 1) 0 (omega (arith, are.all, h)) in
       let z : get_or starts (v + 1) 0 - get_or starts v 0 ≡ 0 = omega (arith, e) in
-      subst (λ (m : ℕ). IsOneOf n (take m (drop (get_or starts v 0) (map by_edge links)))) z o
+      let none : Contains [] n = subst (λ (m : ℕ). Contains (take m (drop (get_or starts v 0) (map by_edge links))) n) z o in
+      omega (arith, none.1)
 
   node_within : AreWithin edges (length raised) → (n v : ℕ) → n < length edges → ComesBy edges n v → v < length raised
   node_within w n v h (inl e) = subst (λ (z : Option ℕ). AreIn (length raised) z) e (w.one n h)

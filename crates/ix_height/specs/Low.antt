@@ -21,6 +21,6 @@ module _ (edges : List Edge) (raised : List Bool) where
       part : (o : Option ℕ) (v h : ℕ) → o ≡ Some v → Low v h → LowPart o h
 
   -- each height is the least one, and a node without height cannot be reached
-  pub record AreLeast (hs : List (Option ℕ)) : Type 0 where
-    pub reached : (v h : ℕ) → get_or hs v None ≡ Some h → Low v h
-    pub least : (v m : ℕ) → Low v m → (h : ℕ) × (get_or hs v None ≡ Some h) × (h ≤ m)
+  pub record AreLeast (heights : List (Option ℕ)) : Type 0 where
+    pub reached : (v h : ℕ) → get_or heights v None ≡ Some h → Low v h
+    pub least : (v m : ℕ) → Low v m → (h : ℕ) × (get_or heights v None ≡ Some h) × (h ≤ m)

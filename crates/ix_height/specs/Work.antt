@@ -5,36 +5,36 @@ use Rattle.ix_height.specs.Low.{no_edge}
 use Rattle.ix_height.specs.declared.levels.Levels.{Levels}
 
 pub record Work : Type 0 where
-  pub hs : List (Option ℕ)
-  pub cur : List ℕ
-  pub nxt : List ℕ
+  pub heights : List (Option ℕ)
+  pub current : List ℕ
+  pub next : List ℕ
 
 abbrev pub work_of : Levels → Work
-work_of w = record { hs = w.heights.items; cur = w.current.items; nxt = w.next.items }
+work_of w = record { heights = w.heights.items; current = w.current.items; next = w.next.items }
 
 abbrev pub chosen : Option ℕ → Bool → ℕ → ℕ → Work → Work
 chosen (Some h) up v level w = w
-chosen None true v level w = record { hs = set w.hs v (Some (level + 1)); cur = w.cur; nxt = w.nxt ++ v ∷ [] }
-chosen None false v level w = record { hs = set w.hs v (Some level); cur = w.cur ++ v ∷ []; nxt = w.nxt }
+chosen None true v level w = record { heights = set w.heights v (Some (level + 1)); current = w.current; next = w.next ++ v ∷ [] }
+chosen None false v level w = record { heights = set w.heights v (Some level); current = w.current ++ v ∷ []; next = w.next }
 
 -- the node gets a height where it has none
 abbrev pub settled : Bool → ℕ → ℕ → Work → Work
-settled up v level w = chosen (get_or w.hs v None) up v level w
+settled up v level w = chosen (get_or w.heights v None) up v level w
 
 abbrev pub up_to : ℕ → Option ℕ → Bool
 up_to level None = false
 up_to level (Some h) = nat_le h level
 
 abbrev pub low_enough : List (Option ℕ) → ℕ → Option ℕ → Bool
-low_enough hs level None = true
-low_enough hs level (Some v) = up_to level (get_or hs v None)
+low_enough heights level None = true
+low_enough heights level (Some v) = up_to level (get_or heights v None)
 
 abbrev pub is_ready : List (Option ℕ) → ℕ → Edge → Bool
-is_ready hs level e = low_enough hs level e.one && low_enough hs level e.two
+is_ready heights level e = low_enough heights level e.one && low_enough heights level e.two
 
 -- what an edge makes of the work
 abbrev pub fired : List Bool → ℕ → Edge → Work → Work
-fired raised level e w = if is_ready w.hs level e then settled (get_or raised e.to false) e.to level w else w
+fired raised level e w = if is_ready w.heights level e then settled (get_or raised e.to false) e.to level w else w
 
 -- what the edges of these numbers make of the work
 abbrev pub visited : List Edge → List Bool → ℕ → List ℕ → Work → Work
@@ -57,4 +57,4 @@ pub record AreWithin (edges : List Edge) (count : ℕ) : Type 0 where
 
 -- the next level's nodes become this level's
 abbrev pub risen : Work → Work
-risen w = record { hs = w.hs; cur = w.nxt; nxt = w.cur }
+risen w = record { heights = w.heights; current = w.next; next = w.current }

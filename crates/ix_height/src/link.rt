@@ -1,29 +1,15 @@
 ghost use Rattle.std.specs.Prelude.{◌≡◌, ◌<◌, ◌≤◌, ◌+◌, ◌^◌, ◌++◌, IfOk, OnOk, length, map, nat_lt};
 ghost use Rattle.std.specs.List.Sorted.{IsPermutation, IsNonDecreasingBy};
-ghost use Rattle.std.specs.Ordering.{nat_cmp};
 ghost use Rattle.ix_height.specs.Links.{by_node, by_edge, links_by, LinksSoFar, IsLowerLink, AreStarts};
 
 use crate::edge::Edge;
 use std::alloc::{AllocError, Global};
-use std::cmp::Ordering;
 
-/// An edge, by a node that it comes by.
+/// An edge, by a span that it comes by.
 #[derive(Clone, Copy, Debug, PartialEq, Eq)]
 pub struct Link {
     pub node: u32,
     pub edge: u32,
-}
-
-fn order(a: Link, b: Link) -> Ordering
-    ensures { result ≡ nat_cmp (by_node a) (by_node b) }
-{
-    if a.node < b.node {
-        Ordering::Less
-    } else if b.node < a.node {
-        Ordering::Greater
-    } else {
-        Ordering::Equal
-    }
 }
 
 fn push_link(out: &mut Vec<Link>, node: Option<u32>, edge: u32) -> Result<(), AllocError>
@@ -49,12 +35,16 @@ pub fn links_of(alloc: Global, edges: &[Edge]) -> Result<Vec<Link>, AllocError>
     Ok(out)
 }
 
-/// Puts the links in the order of their nodes.
+/// Puts the links in the order of their spans.
 pub fn sort_links(links: &mut [Link])
     ensures same { IsPermutation links.old links.new }
     ensures order { IsNonDecreasingBy by_node links.new }
 {
-    links.sort_unstable_by(|a, b| order(*a, *b));
+    links.sort_unstable_by_key(
+        |link: &Link| -> u32
+            ensures { result ≡ by_node link.now }
+        { link.node },
+    );
 }
 
 /// The edges of the links.
@@ -68,7 +58,7 @@ pub fn numbers_of(alloc: Global, links: &[Link]) -> Result<Vec<u32>, AllocError>
     Ok(numbers)
 }
 
-// How many links are of nodes before this one.
+// How many links are of spans before this one.
 fn lower(links: &[Link], node: usize) -> usize
     requires { IsNonDecreasingBy by_node links.now }
     ensures { IsLowerLink links.now node result }
@@ -80,7 +70,7 @@ fn lower(links: &[Link], node: usize) -> usize
     )
 }
 
-/// Where the links of each node begin, and of the last one end.
+/// Where the links of each span begin, and those of the last one end.
 pub fn starts_of(alloc: Global, links: &[Link], count: usize) -> Result<Vec<u32>, AllocError>
     requires order { IsNonDecreasingBy by_node links.now }
     requires few { length links.now < 2 ^ 32 }

@@ -1,4 +1,4 @@
-ghost use Rattle.std.specs.Prelude.{◌≡◌, ◌<◌, ◌^◌, ◌++◌, [], ◌∷◌, None, IfOk, OnOk, IfSome, length};
+ghost use Rattle.std.specs.Prelude.{◌≡◌, ◌↔◌, ◌<◌, ◌^◌, ◌++◌, [], ◌∷◌, IsTrue, Some, None, IfOk, OnOk, IfSome, length};
 ghost use Rattle.std.specs.List.{Contains};
 ghost use Rattle.std.specs.List.Sorted.{IsStrictlySortedBy};
 ghost use Rattle.std.specs.Option.{option_to_list};
@@ -22,15 +22,31 @@ fn push_spans(out: &mut Vec<Span>, span: Span, whole: Option<Span>) -> Result<()
     Ok(())
 }
 
+// Whether the last span is this one.
+fn is_last(last: Option<Span>, span: Span) -> bool
+    ensures { IsTrue result ↔ (last ≡ Some span) }
+{
+    match last {
+        None => false,
+        Some(last) => last == span,
+    }
+}
+
+// The spans of the set's subtrees. Subtrees of one span follow each other, so few stand twice.
 fn unsorted(alloc: Global, plan: &Plan, set: &SubSet) -> Result<Vec<Span>, AllocError>
     requires set { IsSetOf plan.now set.now }
     requires planned { IsPlanned plan.now }
     ensures { IfOk result (λ v. SpansSoFar plan.now set.now.ways (length set.now.ways) v.items) }
 {
     let mut out = Vec::new(alloc);
+    let mut last = None;
     for at in 0..set.count() {
         let sub = set.sub(at);
-        push_spans(&mut out, slot_span(sub), whole_span(plan, sub))?;
+        let span = slot_span(sub);
+        if !is_last(last, span) {
+            push_spans(&mut out, span, whole_span(plan, sub))?;
+        }
+        last = Some(span);
     }
     Ok(out)
 }
