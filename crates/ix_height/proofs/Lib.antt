@@ -8,4 +8,5 @@ pub mod Linking
 pub mod Places
 pub mod Points
 pub mod Settling
+pub mod SmallHeights
 pub mod Uses
