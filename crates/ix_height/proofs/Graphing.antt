@@ -1,8 +1,8 @@
 -- The spans and edges of a set are its graph, and the least heights in it are those of the trees.
-use Rattle.std.proofs.Common.{◌≡◌, refl, ap, sym, subst, ◌∙◌, ◌⊎◌, ◌≤◌, ◌<◌, ℕ, Bool, false, List, length, Option, Some, None, IfSome, arith, get_or, map}
+use Rattle.std.proofs.Common.{◌≡◌, refl, ap, sym, subst, ◌∙◌, ◌≤◌, ◌<◌, ℕ, Bool, false, List, length, Option, Some, None, IfSome, arith, get_or, map}
 use mathlib.Core.Logic.{inl, inr}
-use Rattle.std.specs.List.{All, Contains}
-use Rattle.std.proofs.lemmas.List.{get_or_default, get_or-map}
+use Rattle.std.specs.List.{All}
+use Rattle.std.proofs.lemmas.List.{get_or-map}
 use Rattle.std.proofs.lemmas.List.Elements.{All-from_get_or}
 use Rattle.std.proofs.lemmas.Option.{slice_get_within}
 use Rattle.ix_model.specs.Expansion.Parts.{Parts}

@@ -1,5 +1,5 @@
 -- The edges of useful subtrees are their ways.
-use Rattle.std.proofs.Common.{◌≡◌, refl, sym, subst, ◌∙◌, ◌+◌, ◌<◌, ℕ, List, length, Option, Some, None, IfSome, arith}
+use Rattle.std.proofs.Common.{◌≡◌, refl, sym, subst, ◌∙◌, ◌+◌, ℕ, List, length, Option, Some, None, IfSome, arith}
 use mathlib.Core.Logic.{inl, inr}
 use Rattle.std.specs.List.{Contains}
 use Rattle.std.proofs.lemmas.List.{get_or_default}

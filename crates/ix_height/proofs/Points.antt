@@ -11,4 +11,3 @@ module _ {X : Type 0} (n : X → ℕ) (xs : List X) (c i : ℕ) (d : X) where
 
     pub not_less_from : (k : ℕ) → i ≤ k → k < length xs → c ≤ n (get_or xs k d)
     not_less_from k h o = ltb-false (n (get_or xs k d)) c (point.1 k d h o)
-

@@ -1,5 +1,5 @@
 -- The worked examples of spans, their ways and their heights.
-use Rattle.std.proofs.Common.{rules, ◌≡◌, refl, ap, sym, subst, ◌∙◌, ◌+◌, ◌≤◌, ◌<◌, ℕ, zero, suc, max, false, true, true≢false, List, [], ◌∷◌, Option, Some, None, codes, arith, get_or}
+use Rattle.std.proofs.Common.{rules, ◌≡◌, refl, ap, sym, subst, ◌∙◌, ◌+◌, ◌≤◌, ◌<◌, ℕ, zero, suc, max, false, true, true≢false, [], ◌∷◌, Option, Some, None, codes, arith, get_or}
 use mathlib.Core.Logic.{inl, inr}
 use Rattle.ix_model.specs.declared.rules.Kind.{Kind}
 use Rattle.ix_model.specs.declared.rules.Kind.TheVariants as kind

@@ -1,5 +1,5 @@
 -- The spans that are of use, in order.
-use Rattle.std.specs.Prelude.{◌≡◌, ◌↔◌, ℕ, ◌<◌, List}
+use Rattle.std.specs.Prelude.{◌↔◌, ℕ, ◌<◌, List}
 use Rattle.std.specs.declared.cmp.Ordering.{Ordering}
 use Rattle.std.specs.List.{Contains}
 use Rattle.std.specs.List.Sorted.{IsStrictlySortedBy}

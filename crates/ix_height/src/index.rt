@@ -4,8 +4,8 @@ ghost use Rattle.ix_height.specs.Work.{AreWithin};
 ghost use Rattle.ix_height.specs.Spans.{is_raised, IsThere};
 ghost use Rattle.std.specs.List.{All};
 
-use crate::link::{links_of, numbers_of, sort_links, starts_of};
 use crate::edge::Edge;
+use crate::link::{links_of, numbers_of, sort_links, starts_of};
 use crate::span::{Owner, Span};
 use ix_model::{Kind, Plan};
 use std::alloc::{AllocError, Global};

@@ -45,7 +45,10 @@ fn heights_rise_with_the_text(rt: HostRuntime) -> Result<(), Fail> {
     // Behind the S up to the end of the text no letter follows.
     assert_eq!(rt; found.of_slot(1, 0, 3), None);
     // Nothing stands before the first dot, and there is no slot 4.
-    assert_eq!(rt; (found.of_slot(0, 0, 0), found.of_slot(4, 0, 0)), (None, None));
+    assert_eq!(rt;
+        (found.of_slot(0, 0, 0), found.of_slot(4, 0, 0)),
+        (None, None)
+    );
     Ok(())
 }
 

@@ -24,7 +24,7 @@ loop-at-preserved c =
     record {
       spans = elim c.if-not-is_last.branch [
         | then-not-is_last+in_ok-push_spans w ↦ rw w.out-is (spans_step c.args.plan.now c.requires.planned ways c.loop-at.at c.loop-at.out.items w.push_spans.new.out.items c.slot_span-span.result w.whole_span.result c.sub-sub.result c.sub-sub.ensures c.requires.set.ways within c.slot_span-span.ensures
-        w.whole_span.ensures.some w.whole_span.ensures.only (search rules) c.loop-at.invariant.spans)
+            w.whole_span.ensures.some w.whole_span.ensures.only (search rules) c.loop-at.invariant.spans)
         | else-not-is_last w ↦
             let same : c.loop-at.last ≡ Some c.slot_span-span.result = search rules in
             let i : (i : ℕ) × (i < c.loop-at.at) × (slot_span (way_at ways i) ≡ c.slot_span-span.result) = subst (λ (z : Option Span). IfSome z (λ t. (i : ℕ) × (i < c.loop-at.at) × (slot_span (way_at ways i) ≡ t))) same c.loop-at.invariant.last in
