@@ -9,4 +9,5 @@ pub mod Places
 pub mod Points
 pub mod Settling
 pub mod SmallHeights
+pub mod Turns
 pub mod Uses

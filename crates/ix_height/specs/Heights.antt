@@ -1,4 +1,4 @@
--- Least heights of spans.
+-- Least heights of spans. They come first in this project's own order of derivations.
 use Rattle.std.specs.Prelude.{◌≡◌, ℕ, ◌≤◌, Option, None, IfSome}
 use Rattle.ix_model.specs.declared.rules.Sym.TheVariants as sym
 use Rattle.ix_model.specs.Expansion.Parts.{Parts}

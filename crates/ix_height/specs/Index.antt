@@ -1,4 +1,4 @@
--- The edges of each node, in a list of all of them by nodes.
+-- The edges of each node, in a list of all of them by nodes. A node is the number of a span.
 use Rattle.std.specs.Prelude.{◌≡◌, ◌⊎◌, ℕ, ◌+◌, ◌<◌, ◌≤◌, ◌-◌, Bool, List, length, get_or, Some, take, drop}
 use Rattle.std.specs.List.{Contains}
 use Rattle.ix_height.specs.declared.edge.Edge.{Edge}

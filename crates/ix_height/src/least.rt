@@ -38,7 +38,12 @@ fn levels_of(
     Ok(heights)
 }
 
-/// The least heights of the spans of the set.
+/// The least heights of the spans of the set, which is the plan's. A named rule is one higher than
+/// the highest of what it is made of, a helper is as high, and a terminal has height 0. Least
+/// heights decide first in this project's own order of derivations.
+///
+/// `AllocError` where memory runs out, or where the spans, or the ways between them, are more than
+/// 32 bits can number.
 pub fn heights(alloc: Global, plan: &Plan, set: &SubSet) -> Result<Heights, AllocError>
     requires { IsSetOf plan.now set.now }
     ensures { IfOk result (λ h. AreHeights plan.now h) }

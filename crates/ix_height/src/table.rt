@@ -10,7 +10,7 @@ use crate::span::Span;
 use crate::spans::find;
 use std::marker::Model;
 
-/// The least heights of the spans of a set of subtrees.
+/// The least heights of the spans of a set of subtrees, made by `heights`.
 #[derive(Debug, Drop)]
 pub struct Heights {
     spans: Vec<Span>,
@@ -50,8 +50,9 @@ impl Heights {
         }
     }
 
-    /// The least height of a derivation of the rule from `low` to `high`. `None` where no subtree
-    /// of the set ends an alternative of the rule there.
+    /// The least height of a derivation of the rule from `low` to `high`, which are counted in
+    /// characters from 0. `None` exactly where no subtree of the set ends an alternative of the rule
+    /// over this span.
     pub fn of_rule(&self, rule: u32, low: u32, high: u32) -> Option<u64>
         ensures found { result ≡ found self.now (of_rule rule low high) }
         ensures least { (plan : Parts) → AreHeights plan self.now → IsAnswer plan (of_rule rule low high) result }
@@ -59,8 +60,10 @@ impl Heights {
         self.of_span(Span::of_rule(rule, low, high))
     }
 
-    /// The least height, over all derivations of the symbols before the slot's dot from `low` to
-    /// `high`, of the highest of them. `None` where no subtree of the set has the slot there.
+    /// The least height of derivations of the symbols before the slot's dot from `low` to `high`,
+    /// which are counted in characters from 0: of several symbols, the height of the highest. `None`
+    /// exactly where no subtree of the set has the slot and this span; so always where the dot stands
+    /// before the first of some symbols.
     pub fn of_slot(&self, slot: u32, low: u32, high: u32) -> Option<u64>
         ensures found { result ≡ found self.now (of_slot slot low high) }
         ensures least { (plan : Parts) → AreHeights plan self.now → IsAnswer plan (of_slot slot low high) result }

@@ -2,7 +2,8 @@ use Rattle.std.proofs.Common.{◌≡◌, refl, sym, subst, ◌+◌, ◌*◌, ◌
 use Rattle.ix_height.specs.Work.{Work, work_of, fired}
 use Rattle.ix_height.specs.Low.{no_edge}
 use Rattle.ix_height.specs.Progress.{Progress, weight}
-use Rattle.ix_height.proofs.Settling.{at_start, start_weight, first_edge, fired_weight, nothings}
+use Rattle.ix_height.proofs.Settling.{fired_weight}
+use Rattle.ix_height.proofs.Turns.{at_start, start_weight, first_edge, nothings}
 use Rattle.ix_height.proofs.levels.begin.Goals as goal
 
 pub loop-number-init : goal.loop-number-init
