@@ -14,6 +14,3 @@ mod table;
 
 pub use least::heights;
 pub use table::Heights;
-
-#[cfg(test)]
-mod tests;
