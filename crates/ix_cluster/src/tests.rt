@@ -1,7 +1,18 @@
+ghost use Rattle.std.specs.Prelude.{◌≡◌, IfOk, codes};
+ghost use Rattle.ix_examples.specs.SmallPlans.{cycle as a_cycle};
+
 use crate::{Arrived, Bank, Banks, Claimed, Edge, Fact, home};
 use ix_examples::plans::{BY_FIRST, BY_SECOND, cycle};
+use ix_model::Plan;
 use std::alloc::{AllocError, Global};
 use std::test::Fail;
+
+// The plan of `S: S; "a".` for `a`: slots 0 and 1 are of the first alternative, 2 and 3 of the second.
+fn cycle_plan(alloc: Global) -> Result<Plan, AllocError>
+    ensures { IfOk result (λ plan. plan ≡ a_cycle (codes "a")) }
+{
+    cycle(alloc, &['a'])
+}
 
 // The facts of the bank, in the order of its log.
 fn facts_of(alloc: Global, bank: &Bank) -> Result<Vec<Fact>, AllocError> {
@@ -33,11 +44,10 @@ fn clusters_spread_over_banks(rt: HostRuntime) -> Result<(), Fail> {
     Ok(())
 }
 
-// The plan of these tests is `S: S; "a".` on `a`: slots 0 and 1 are of the first alternative, 2 and 3 of the second.
 #[test]
 fn steps_of_a_bank_answer_once(rt: HostRuntime) -> Result<(), Fail> {
     let alloc = rt.alloc();
-    let plan = cycle(alloc, &['a'])?;
+    let plan = cycle_plan(alloc)?;
     let mut banks = Banks::begin(alloc, &plan, 1)?;
     let Some(mut bank) = banks.banks.pop() else {
         panic!(rt; "there is one bank");
@@ -148,7 +158,7 @@ fn steps_of_a_bank_answer_once(rt: HostRuntime) -> Result<(), Fail> {
 #[test]
 fn an_edge_meets_the_end_that_is_there(rt: HostRuntime) -> Result<(), Fail> {
     let alloc = rt.alloc();
-    let plan = cycle(alloc, &['a'])?;
+    let plan = cycle_plan(alloc)?;
     let mut banks = Banks::begin(alloc, &plan, 1)?;
     let Some(mut bank) = banks.banks.pop() else {
         panic!(rt; "there is one bank");
@@ -164,7 +174,7 @@ fn an_edge_meets_the_end_that_is_there(rt: HostRuntime) -> Result<(), Fail> {
 #[test]
 fn banks_tell_what_they_have_together(rt: HostRuntime) -> Result<(), Fail> {
     let alloc = rt.alloc();
-    let plan = cycle(alloc, &['a'])?;
+    let plan = cycle_plan(alloc)?;
     let mut banks = Banks::begin(alloc, &plan, 3)?;
     assert_eq!(rt;
         (banks.count(), banks.furthest(), banks.descriptors()),
