@@ -1,0 +1,11 @@
+pub mod Ascent
+pub mod Descent
+pub mod EdgeGathering
+pub mod Gathering
+pub mod Graphing
+pub mod Indexing
+pub mod Linking
+pub mod Places
+pub mod Points
+pub mod Settling
+pub mod Uses

@@ -1,0 +1,13 @@
+pub mod Edges
+pub mod Graph
+pub mod HeightLaws
+pub mod HeightLists
+pub mod Heights
+pub mod Index
+pub mod Links
+pub mod Low
+pub mod Progress
+pub mod SpanLists
+pub mod Spans
+pub mod Ways
+pub mod Work
