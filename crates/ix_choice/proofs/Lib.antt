@@ -1,0 +1,5 @@
+pub mod Ascending
+pub mod Doing
+pub mod ForestFacts
+pub mod Remaining
+pub mod SlotFacts

@@ -1,0 +1,2 @@
+pub mod SlotTrees
+pub mod Tasks
