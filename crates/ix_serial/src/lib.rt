@@ -1,0 +1,15 @@
+//! Documents as bytes: a marked tree in XML, and the document of a text that no derivation has.
+#![tactic(auto)]
+
+mod document;
+mod escapes;
+mod failed;
+pub mod laws;
+mod tags;
+mod writer;
+
+pub use document::bytes;
+pub use failed::failed_bytes;
+
+#[cfg(test)]
+mod tests;

@@ -1,0 +1,45 @@
+//! Attributes in XML.
+ghost use Rattle.std.specs.Prelude.{◌≡◌, ◌++◌, map, OnOk, string_bytes};
+ghost use Rattle.ix_model.specs.Documents.Xml.{attribute_bytes};
+ghost use Rattle.ix_marks.specs.InRange.{IsAttrIn, AreAttrsIn};
+ghost use Rattle.ix_marks.specs.Meaning.{attribute_of};
+ghost use Rattle.ix_marks.specs.Writing.{attributes_written};
+
+use crate::escapes::{push_name, push_value};
+use ix_marks::Attr;
+use ix_model::Plan;
+use std::alloc::AllocError;
+
+// A space, the name, and the value in quotes.
+fn push_attribute(
+    text: &mut String,
+    plan: &Plan,
+    chars: &[char],
+    attr: Attr,
+) -> Result<(), AllocError>
+    requires { IsAttrIn plan.now.rules.names chars.now attr }
+    ensures { OnOk result (string_bytes text.new ≡ string_bytes text.old ++
+        attribute_bytes (attribute_of plan.now.rules.names chars.now attr).name (attribute_of plan.now.rules.names chars.now attr).value) }
+{
+    text.push(' ')?;
+    push_name(text, plan.name(attr.name).as_slice())?;
+    text.push_str("=\"")?;
+    push_value(text, &chars[attr.low as usize..attr.high as usize])?;
+    text.push('"')
+}
+
+// The attributes in their order. Their names are the plan's, and their values are ranges of the characters.
+pub(crate) fn push_attributes(
+    text: &mut String,
+    plan: &Plan,
+    chars: &[char],
+    attrs: &[Attr],
+) -> Result<(), AllocError>
+    requires { AreAttrsIn plan.now.rules.names chars.now attrs.now }
+    ensures { OnOk result (string_bytes text.new ≡ string_bytes text.old ++ attributes_written (map (attribute_of plan.now.rules.names chars.now) attrs.now)) }
+{
+    for attr in attrs {
+        push_attribute(text, plan, chars, *attr)?;
+    }
+    Ok(())
+}
