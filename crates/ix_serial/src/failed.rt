@@ -17,5 +17,7 @@ pub fn failed_bytes(
 ) -> Result<Vec<u8>, AllocError>
     ensures { IfOk result (λ document. document.items ≡ failed_xml offset line column) }
 {
-    Ok(format!(in alloc; "<fail xmlns:ixml=\"http://invisiblexml.org/NS\" ixml:state=\"failed\" offset=\"{offset}\" line=\"{line}\" column=\"{column}\"/>\n")?.into_bytes())
+    Ok(format!(in alloc;
+        "<fail xmlns:ixml=\"http://invisiblexml.org/NS\" ixml:state=\"failed\" offset=\"{offset}\" line=\"{line}\" column=\"{column}\"/>\n"
+    )?.into_bytes())
 }

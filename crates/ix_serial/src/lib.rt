@@ -1,11 +1,12 @@
 //! Documents as bytes: a marked tree in XML, and the document of a text that no derivation has.
 #![tactic(auto)]
 
+mod attributes;
+mod content;
 mod document;
-mod escapes;
 mod failed;
 pub mod laws;
-mod tags;
+mod names;
 mod writer;
 
 pub use document::bytes;

@@ -8,8 +8,9 @@ ghost use Rattle.ix_marks.specs.Meaning.{attribute_of, piece_of};
 ghost use Rattle.ix_marks.specs.Pieces.{start_tag, end_tag, characters};
 ghost use Rattle.ix_serial.specs.PieceBytes.{tag_end, piece_bytes, opens_tag};
 
-use crate::escapes::{push_content, push_name};
-use crate::tags::push_attributes;
+use crate::attributes::push_attributes;
+use crate::content::push_content;
+use crate::names::push_name;
 use ix_marks::{Attr, Item, Marked};
 use ix_model::{Plan, Text};
 use std::alloc::{AllocError, Global};

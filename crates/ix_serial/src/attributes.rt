@@ -1,11 +1,12 @@
 //! Attributes in XML.
 ghost use Rattle.std.specs.Prelude.{◌≡◌, ◌++◌, map, OnOk, string_bytes};
-ghost use Rattle.ix_model.specs.Documents.Xml.{attribute_bytes};
+ghost use Rattle.std.specs.List.{flat_map};
+ghost use Rattle.ix_model.specs.Documents.Xml.{attribute_bytes, value_bytes};
 ghost use Rattle.ix_marks.specs.InRange.{IsAttrIn, AreAttrsIn};
 ghost use Rattle.ix_marks.specs.Meaning.{attribute_of};
 ghost use Rattle.ix_marks.specs.Writing.{attributes_written};
 
-use crate::escapes::{push_name, push_value};
+use crate::names::push_name;
 use ix_marks::Attr;
 use ix_model::Plan;
 use std::alloc::AllocError;
@@ -42,4 +43,28 @@ pub(crate) fn push_attributes(
         push_attribute(text, plan, chars, *attr)?;
     }
     Ok(())
+}
+
+// The characters of a value.
+fn push_value(text: &mut String, chars: &[char]) -> Result<(), AllocError>
+    ensures { OnOk result (string_bytes text.new ≡ string_bytes text.old ++ flat_map value_bytes chars.now) }
+{
+    for &c in chars {
+        push_value_char(text, c)?;
+    }
+    Ok(())
+}
+
+fn push_value_char(text: &mut String, c: char) -> Result<(), AllocError>
+    ensures { OnOk result (string_bytes text.new ≡ string_bytes text.old ++ value_bytes c) }
+{
+    match c {
+        '&' => text.push_str("&amp;"),
+        '<' => text.push_str("&lt;"),
+        '"' => text.push_str("&quot;"),
+        '\t' => text.push_str("&#x9;"),
+        '\n' => text.push_str("&#xA;"),
+        '\r' => text.push_str("&#xD;"),
+        _ => text.push(c),
+    }
 }

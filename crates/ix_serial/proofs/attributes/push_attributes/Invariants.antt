@@ -1,7 +1,7 @@
 use Rattle.std.proofs.Common.{◌≡◌, ◌++◌, drop, map, string_bytes}
 use Rattle.ix_marks.specs.Meaning.{attribute_of}
 use Rattle.ix_marks.specs.Writing.{attributes_written}
-use Rattle.ix_serial.proofs.tags.push_attributes.Given as goal
+use Rattle.ix_serial.proofs.attributes.push_attributes.Given as goal
 
 abbrev pub invariant-loop-attr : goal.invariant-loop-attr
 invariant-loop-attr l =
