@@ -1,13 +1,12 @@
 -- The bytes of the pieces, one after the other, are the document.
-use Rattle.std.proofs.Common.{◌≡◌, ◌==◌, refl, ap, sym, subst, ◌∙◌, ℕ, zero, suc, Bool, true, false, Some, slice_get, List, [], ◌∷◌, ◌++◌, length, append_assoc, arith, map}
+use Rattle.std.proofs.Common.{◌≡◌, refl, ap, sym, subst, ◌∙◌, ℕ, zero, suc, Bool, true, false, Some, slice_get, List, [], ◌∷◌, ◌++◌, append_assoc, arith, map}
 use Rattle.std.specs.Prelude.{codes}
 use Rattle.std.specs.List.{flat_map, AllByRecursion}
 use Rattle.ix_model.specs.declared.state.State.{State}
-use Rattle.ix_model.specs.Documents.Dyn.{Holds, HasNoRefusal, attribute_at_top, not_one_element, attribute_names, element_count, character_count}
+use Rattle.ix_model.specs.Documents.Dyn.{HasNoRefusal, attribute_at_top, not_one_element, attribute_names, element_count, character_count}
 use Rattle.ix_model.specs.Documents.Gives.{attribute, element, run, Givens, nothing, followed}
 use Rattle.ix_model.specs.Documents.Xml.{content_bytes, name_bytes, state_bytes, xml}
 use Rattle.ix_marks.specs.InRange.{AreIn}
-use Rattle.ix_marks.specs.Laws.{RunsAreSolid}
 use Rattle.ix_marks.specs.MarkedLists.{MarkedLists}
 use Rattle.ix_marks.specs.Meaning.{piece_of}
 use Rattle.ix_marks.specs.Pieces.{Attribute, Piece, start_tag, end_tag, characters, attributes, pieces}

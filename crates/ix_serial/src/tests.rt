@@ -35,7 +35,8 @@ fn an_ambiguous_root_says_so(rt: HostRuntime) -> Result<(), Fail> {
     let plan = only_a(alloc, &['&'])?;
     let tree = ampersand_tree(alloc, &plan)?;
     let document = bytes(alloc, &plan, &tree, State::Ambiguous)?;
-    let expected: &[u8] = b"<S xmlns:ixml=\"http://invisiblexml.org/NS\" ixml:state=\"ambiguous\">&amp;</S>\n";
+    let expected: &[u8] =
+        b"<S xmlns:ixml=\"http://invisiblexml.org/NS\" ixml:state=\"ambiguous\">&amp;</S>\n";
     assert_eq!(rt; document.as_slice(), expected);
     Ok(())
 }
@@ -43,7 +44,8 @@ fn an_ambiguous_root_says_so(rt: HostRuntime) -> Result<(), Fail> {
 #[test]
 fn the_failed_document_names_the_place(rt: HostRuntime) -> Result<(), Fail> {
     let document = failed_bytes(rt.alloc(), 4_294_967_295, 2, 17)?;
-    let expected: &[u8] = b"<fail xmlns:ixml=\"http://invisiblexml.org/NS\" ixml:state=\"failed\" offset=\"4294967295\" line=\"2\" column=\"17\"/>\n";
+    let expected: &[u8] =
+        b"<fail xmlns:ixml=\"http://invisiblexml.org/NS\" ixml:state=\"failed\" offset=\"4294967295\" line=\"2\" column=\"17\"/>\n";
     assert_eq!(rt; document.as_slice(), expected);
     Ok(())
 }
