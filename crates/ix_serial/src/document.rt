@@ -1,4 +1,4 @@
-ghost use Rattle.std.specs.Prelude.{◌≡◌, IfOk};
+ghost use Rattle.std.specs.Prelude.{◌≡◌, ◌++◌, ◌∷◌, [], IfOk, string_bytes};
 ghost use Rattle.ix_model.specs.Documents.Dyn.{HasNoRefusal};
 ghost use Rattle.ix_model.specs.Documents.Gives.{Givens};
 ghost use Rattle.ix_model.specs.Documents.Xml.{xml, state_bytes};
@@ -20,6 +20,15 @@ fn state_words(state: State) -> &'static str
             " xmlns:ixml=\"http://invisiblexml.org/NS\" ixml:state=\"ambiguous\""
         }
     }
+}
+
+// The root is written: a line feed stands behind it.
+fn finished(text: String) -> Result<Vec<u8>, AllocError>
+    ensures { IfOk result (λ document. document.items ≡ string_bytes text ++ 10 ∷ []) }
+{
+    let mut text = text;
+    text.push('\n')?;
+    Ok(text.into_bytes())
 }
 
 /// The document of the marked tree, in UTF-8 (XML 1.0). An element without content is written as one tag, and attributes stand
@@ -50,6 +59,5 @@ pub fn bytes(
         // The root alone has them.
         words = "";
     }
-    writer.text.push('\n')?;
-    Ok(writer.text.into_bytes())
+    finished(writer.text)
 }

@@ -1,19 +1,27 @@
 use Rattle.std.proofs.Common.{◌≡◌, ◌∙◌, ap, sym, arith, List, [], ◌∷◌, ◌++◌, append-nil, drop, length, map, string_bytes}
 use Rattle.std.proofs.lemmas.List.{drop_all}
+use Rattle.std.proofs.lemmas.Result.{IfOk-weaker}
+use Rattle.ix_model.specs.Documents.Gives.{Givens}
+use Rattle.ix_model.specs.Documents.Xml.{xml}
 use Rattle.ix_marks.specs.declared.item.Item.{Item}
 use Rattle.ix_marks.specs.Meaning.{piece_of}
+use Rattle.ix_marks.specs.Standing.{StandsFor}
 use Rattle.ix_serial.specs.PieceBytes.{pieces_bytes}
 use Rattle.ix_serial.proofs.Documents.{document_bytes}
 use Rattle.ix_serial.proofs.document.bytes.Goals as goal
 
 pub returns : goal.returns
-returns c = λ gs s.
+returns c =
     let plan = c.args.plan.now in
     let m = c.args.marked.now in
     let say = piece_of plan.rules.names m.attrs m.chars in
     let l = c.loop-item in
     let whole : string_bytes l.writer.text ++ pieces_bytes l.words.now l.writer.tag_open (map say (drop l.item-index m.items)) ≡ string_bytes l.writer.text =
     ap (λ (xs : List Item). string_bytes l.writer.text ++ pieces_bytes l.words.now l.writer.tag_open (map say xs)) (drop_all l.item-index m.items (omega (arith, ap (λ (xs : List Item). length xs) c.items-item-items.ensures))) ∙ append-nil (string_bytes l.writer.text) in
-    ap (λ v. v.items) c.into_bytes.ensures.value ∙ c.in_ok-push.ensures.bytes
-    ∙ ap (λ z. string_bytes l.writer.text ++ z) (c.in_ok-push.ensures.ascii (omega arith)) ∙ ap (λ z. z ++ 10 ∷ []) (sym whole ∙ l.invariant.1)
-    ∙ document_bytes plan.rules.names m c.args.state c.requires.document.0 gs c.requires.there c.requires.document.1 c.requires.document.2 s
+    IfOk-weaker c.finished.result
+    (λ v. v.items ≡ string_bytes l.writer.text ++ 10 ∷ [])
+    (λ v. (gs : Givens) → StandsFor plan.rules.names m gs → v.items ≡ xml gs c.args.state)
+    (λ v written gs s.
+    written ∙ ap (λ z. z ++ 10 ∷ []) (sym whole ∙ l.invariant.1)
+    ∙ document_bytes plan.rules.names m c.args.state c.requires.document.0 gs c.requires.there c.requires.document.1 c.requires.document.2 s)
+    c.finished.ensures
