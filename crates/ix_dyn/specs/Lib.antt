@@ -1,0 +1,4 @@
+pub mod Items
+pub mod Least
+pub mod Refusals
+pub mod Top
