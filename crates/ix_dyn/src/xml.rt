@@ -1,5 +1,6 @@
 //! The names and characters of XML (XML 1.0, "Characters" and "Common Syntactic Constructs").
 ghost use Rattle.std.specs.Prelude.{◌≡◌};
+ghost use Rattle.std.specs.List.{list_all};
 ghost use Rattle.ix_model.specs.Documents.XmlNames.{is_in, is_xml_name_start, is_xml_name_char, is_xml_char, is_xml_name};
 
 // What may begin a name: `:`, `A` to `Z`, `_`, `a` to `z`, and the letters beyond ASCII.
@@ -41,11 +42,15 @@ const CHARS: [(char, char); 5] = [
 ];
 
 // Whether some range has the character, both of its bounds included.
-#[tactic(auto, using(crate::proofs::Ranges::in_some))]
 fn is_in(ranges: &[(char, char)], c: char) -> bool
     ensures { result ≡ is_in ranges.now c }
 {
-    ranges.iter().any(|range| range.0 <= c && c <= range.1)
+    for range in ranges {
+        if range.0 <= c && c <= range.1 {
+            return true;
+        }
+    }
+    false
 }
 
 // Whether a character may begin a name.
@@ -72,12 +77,19 @@ pub(crate) fn is_char(c: char) -> bool
     is_in(&CHARS, c)
 }
 
+// Whether each of the characters may stand within a name.
+fn are_name_chars(chars: &[char]) -> bool
+    ensures { result ≡ list_all is_xml_name_char chars.now }
+{
+    chars.iter().all(|c| is_name_char(*c))
+}
+
 // Whether the characters are a name: one that may begin it, and then any that may stand within it.
 pub(crate) fn is_name(name: &[char]) -> bool
     ensures { result ≡ is_xml_name name.now }
 {
     match name {
         [] => false,
-        [first, rest @ ..] => is_name_start(*first) && rest.iter().all(|c| is_name_char(*c)),
+        [first, rest @ ..] => is_name_start(*first) && are_name_chars(rest),
     }
 }
