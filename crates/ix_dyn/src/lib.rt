@@ -11,3 +11,6 @@ mod xml;
 
 pub use least::dynamic;
 pub use refusal::DynRefusal;
+
+#[cfg(test)]
+mod tests;
