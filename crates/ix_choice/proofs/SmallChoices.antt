@@ -1,10 +1,8 @@
 -- The worked examples of the trees before a slot's dot, and of the choices between them.
-use Rattle.std.proofs.Common.{◌≡◌, refl, ap, sym, subst, ◌∙◌, ◌⊎◌, ◌+◌, ◌<◌, ◌≤◌, ℕ, zero, suc, true, List, [], ◌∷◌, length, Some, None, codes, slice_get, arith}
+use Rattle.std.proofs.Common.{◌≡◌, refl, ap, sym, subst, ◌∙◌, ◌⊎◌, ◌+◌, ◌<◌, ◌≤◌, ℕ, zero, suc, true, List, length, None, codes, arith}
 use mathlib.Core.Logic.{inl, inr}
 use Rattle.ix_model.specs.declared.rules.Sym.{Sym}
-use Rattle.ix_model.specs.declared.rules.Sym.TheVariants as sy
 use Rattle.ix_model.specs.Expansion.Numbered.{syms_at}
-use Rattle.ix_model.specs.Expansion.Slots.{IsSlot}
 use Rattle.ix_model.specs.Expansion.FlatTrees.{FlatTree, flat_text, flat_insertion, FlatTrees, no_flat, flats_and, flat_count}
 use Rattle.ix_model.specs.Expansion.FlatDerives.{FlatDerives, FlatDerivesFirst, IsFlatDerivation}
 use Rattle.ix_model.specs.Expansion.FlatHeights.{flat_height, flat_heights}
@@ -17,7 +15,7 @@ use Rattle.ix_expansion_laws.proofs.Children.{one_child}
 use Rattle.ix_first_laws.specs.Least.{AltWithin}
 use Rattle.ix_first_laws.proofs.CycleTrees.{cycle_fits, cycle_line, derived_a, literal_fits}
 use Rattle.ix_first_laws.proofs.Fits.{Whatever, whatever}
-use Rattle.ix_first_laws.proofs.HalfTrees.{HalfTree, is_full, is_empty, two, half_tree, half_height, derived_full, derived_empty, best_one, best_two, full_first, first_second, no_pair_before}
+use Rattle.ix_first_laws.proofs.HalfTrees.{HalfTree, is_full, is_empty, two, half_tree, half_height, derived_full, best_one, best_two, full_first, first_second, no_pair_before}
 use Rattle.ix_first_laws.proofs.Lines.{line_syms, line_within}
 use Rattle.ix_first_laws.proofs.Nodes.{by_node}
 use Rattle.ix_choice.specs.Examples.{halves, by_cycle, no_derivation, full, empty}

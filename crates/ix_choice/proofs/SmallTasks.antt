@@ -1,5 +1,5 @@
 -- The worked examples of tasks, and of what they stand for.
-use Rattle.std.proofs.Common.{◌≡◌, refl, ap, sym, subst, ◌∙◌, ◌+◌, ◌<◌, ℕ, Bool, true, false, List, [], ◌∷◌, ◌++◌, length, Option, Some, None, codes, arith}
+use Rattle.std.proofs.Common.{◌≡◌, refl, ap, sym, subst, ◌∙◌, ◌<◌, ℕ, Bool, true, false, List, [], ◌∷◌, ◌++◌, Option, Some, None, arith}
 use mathlib.Core.Logic.{inl, inr}
 use Rattle.ix_model.specs.declared.grammar.Mark.{Mark}
 use Rattle.ix_model.specs.declared.grammar.Mark.TheVariants.{Element, Hidden}
@@ -7,20 +7,19 @@ use Rattle.ix_model.specs.declared.rules.Sym.TheVariants as sy
 use Rattle.ix_model.specs.declared.step.Step.{Step}
 use Rattle.ix_model.specs.declared.step.Step.TheVariants as step
 use Rattle.ix_model.specs.Expansion.Parts.{Parts}
-use Rattle.ix_model.specs.Expansion.FlatTrees.{FlatTree, flat_text, flat_insertion, flat_node, FlatTrees, flat_count}
-use Rattle.ix_model.specs.Expansion.FlatDerives.{FlatDerives, FlatDerivesFirst, IsFlatDerivation}
+use Rattle.ix_model.specs.Expansion.FlatTrees.{FlatTree, flat_text, flat_insertion, flat_node}
+use Rattle.ix_model.specs.Expansion.FlatDerives.{FlatDerives, IsFlatDerivation}
 use Rattle.ix_model.specs.Expansion.Walk.{walk, walk_all}
 use Rattle.ix_model.specs.Closure.Useful.{sub_at, Useful}
-use Rattle.ix_examples.specs.SmallPlans.{a_by, alone, call, in_second, literal, pair}
+use Rattle.ix_examples.specs.SmallPlans.{a_by, alone, call, in_second, pair}
 use Rattle.ix_expansion_laws.proofs.Children.{one_child}
 use Rattle.ix_first_laws.specs.Bounded.{TreesWithin, IsBestTree, IsBestTrees}
 use Rattle.ix_first_laws.proofs.Fits.{Whatever, whatever}
 use Rattle.ix_first_laws.proofs.FlatAsym.{one_tree, one_list}
 use Rattle.ix_first_laws.proofs.HalfTrees.{HalfTree, is_full, is_empty, two, half_tree, half_height, best_two, first_second}
-use Rattle.ix_height.specs.Spans.{IsOfUse, of_rule, of_slot}
-use Rattle.ix_choice.specs.Examples.{halves, shown_or_deleted, no_derivation, full, empty, marked_steps, full_steps, empty_steps, tree_then_leave}
-use Rattle.ix_choice.specs.SlotTrees.{IsSlotOfUse}
-use Rattle.ix_choice.specs.Tasks.{tree_size, trees_size, Gives, AllGive, Done}
+use Rattle.ix_height.specs.Spans.{IsOfUse, of_rule}
+use Rattle.ix_choice.specs.Examples.{halves, shown_or_deleted, full, empty, full_steps, empty_steps, tree_then_leave}
+use Rattle.ix_choice.specs.Tasks.{tree_size, trees_size, Gives, AllGive}
 use Rattle.ix_choice.specs.TaskLaws.{LeaveGivesItsStep, LeaveGivesNoLess, LeaveIsOneTask, TreeGivesItsSteps, MarkIsThatOfTheCall, TreeIsLeft, TreeIsFiveTasks, TreeIsTooHigh, TreeIsOfNoUse, TreesGiveTheirSteps, DeletedIsNotShown, TreesAreInOrder, TreesAreElevenTasks, TreesAreTooHigh, TreesAreOfNoUse, NoTaskGivesNothing, NoTaskGivesNoStep, NoTaskIsNone, LastComesFirst, FirstComesLast, SizesAreAdded, NodeIsEntered, OtherTaskIsKept, OtherStepIsNotGiven, NothingIsNotEnough, SameTaskIsNoLess, LeaveIsDoneByItsStep, LeaveIsNotDoneByNothing, NoTreeIsDoneByNothing, TreesCanBeDone, TooHighCannotBeDone}
 use Rattle.ix_choice.specs.declared.task.Task.{Task}
 use Rattle.ix_choice.specs.declared.task.Task.TheVariants as task

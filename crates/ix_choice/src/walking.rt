@@ -53,6 +53,7 @@ fn do_before(
             high: pivot,
             bound,
         };
+        // The last task is done first.
         tasks.extend_from_slice(&[last, others])?;
     }
     Ok(())
