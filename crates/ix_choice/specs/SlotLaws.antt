@@ -77,7 +77,7 @@ LiteralIsNotEmpty = HasSymHeight halves (literal 0) 0 0 0 → ⊥
 abbrev pub TwoAreWithinOne : Type 0
 TwoAreWithinOne = AreBeforeWithin halves 1 2 0 1 (pair empty full)
 
--- not within a lower one, nor less than stand before the dot
+-- not within a lower one, nor fewer than stand before the dot
 abbrev pub TwoAreNotWithinZero : Type 0
 TwoAreNotWithinZero = AreBeforeWithin halves 0 2 0 1 (pair empty full) → ⊥
 

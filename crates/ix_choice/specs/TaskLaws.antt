@@ -52,7 +52,7 @@ TreeGivesItsSteps = Gives halves (task.Tree (call 1) 0 1 1) full_steps 5
 abbrev pub MarkIsThatOfTheCall : Type 0
 MarkIsThatOfTheCall = Gives halves (task.Tree (sym.Rule 1 (Some Hidden)) 0 1 1) (marked_steps Hidden) 5
 
--- not without its end, nor as less tasks, nor within a lower bound, nor over a span that is of no use
+-- not without its end, nor as fewer tasks, nor within a lower bound, nor over a span that is of no use
 abbrev pub TreeIsLeft : Type 0
 TreeIsLeft = Gives halves (task.Tree (call 1) 0 1 1) (step.Enter 1 Element ∷ step.Text 0 1 true ∷ []) 5 → ⊥
 
@@ -74,7 +74,7 @@ TreesGiveTheirSteps = Gives halves (task.Before 2 0 1 1) (empty_steps ++ full_st
 abbrev pub DeletedIsNotShown : Type 0
 DeletedIsNotShown = Gives shown_or_deleted (task.Before 3 0 1 0) (step.Text 0 1 false ∷ []) 3
 
--- not in another order, nor as less tasks, nor within a lower bound, nor over a span that is of no use
+-- not in another order, nor as fewer tasks, nor within a lower bound, nor over a span that is of no use
 abbrev pub TreesAreInOrder : Type 0
 TreesAreInOrder = Gives halves (task.Before 2 0 1 1) (full_steps ++ empty_steps) 11 → ⊥
 

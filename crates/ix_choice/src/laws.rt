@@ -142,7 +142,7 @@ pub fn tasks_give_steps_or_not()
     ensures size { SizesAreAdded }
 {}
 
-/// A task is done by steps and by less tasks behind the others.
+/// A task is done by steps, and by fewer tasks behind the others.
 pub fn tasks_are_done_or_not()
     ensures entered { NodeIsEntered }
     ensures tasks { OtherTaskIsKept }
