@@ -1,5 +1,5 @@
 -- What each task does.
-use Rattle.std.proofs.Common.{◌≡◌, refl, sym, ap, subst, ◌∙◌, ◌+◌, ◌-◌, ◌<◌, ◌≤◌, ℕ, suc, Bool, List, [], ◌∷◌, ◌++◌, length, arith, Some, None, Option, append-nil, append_assoc, unwrap_or}
+use Rattle.std.proofs.Common.{◌≡◌, refl, sym, ap, subst, ◌∙◌, ◌+◌, ◌-◌, ◌<◌, ◌≤◌, ℕ, suc, Bool, List, [], ◌∷◌, ◌++◌, length, arith, Some, None, Option, append-nil, unwrap_or}
 use Rattle.std.proofs.lemmas.Option.{get_or_from_slice_get}
 use mathlib.Core.Logic.{inr}
 use Rattle.ix_model.specs.declared.grammar.Mark.{Mark}
@@ -77,7 +77,7 @@ module _ (plan : Parts) where
   mark_is r (Some k) d = refl
 
   -- a tree of the rule, whatever mark its call has
-  unmarked : (d : FlatTree) (r i j : ℕ) (m : Option Mark) → FlatDerives plan d (sy.Rule r m) i j → FlatDerives plan d (sy.Rule r None) i j
+  pub unmarked : (d : FlatTree) (r i j : ℕ) (m : Option Mark) → FlatDerives plan d (sy.Rule r m) i j → FlatDerives plan d (sy.Rule r None) i j
   unmarked (flat_text x y) r i j m k = absurd (cc k.2.3)
   unmarked flat_insertion r i j m k = absurd (cc k.1)
   unmarked (flat_node q c fs) r i j m k = let z : q ≡ r = cc k.1 in (None, ap (λ (v : ℕ). sy.Rule v None) (sym z), k.2, k.3, k.4, k.5)
@@ -243,19 +243,16 @@ module _ (plan : Parts) (planned : IsPlanned plan) (nested : IsNested plan.rules
 
   -- ---- the same, as the code puts the tasks
 
-  pub start_does : (ts vs us : List Task) (out : List Step) (v s i j b k : ℕ) (x : Sym) → HasNext plan v s x → IsLeastStart plan b v x i j k → vs ≡ ts ++ task.Tree x k j b ∷ [] → us ≡ vs ++ task.Before v i k b ∷ [] → Does plan (task.Before s i j b) ts us out out
-  start_does ts vs us out v s i j b k x n p e f =
-      let g : us ≡ ts ++ task.Tree x k j b ∷ task.Before v i k b ∷ [] = f ∙ ap (λ z. z ++ task.Before v i k b ∷ []) e ∙ append_assoc ts (task.Tree x k j b ∷ []) (task.Before v i k b ∷ []) in
-      subst (λ z. Does plan (task.Before s i j b) ts z out out) (sym g) (start_done ts out v s i j b k x n p)
+  pub start_does : (ts us : List Task) (out : List Step) (v s i j b k : ℕ) (x : Sym) → HasNext plan v s x → IsLeastStart plan b v x i j k → us ≡ ts ++ task.Tree x k j b ∷ task.Before v i k b ∷ [] → Does plan (task.Before s i j b) ts us out out
+  start_does ts us out v s i j b k x n p e = subst (λ z. Does plan (task.Before s i j b) ts z out out) (sym e) (start_done ts out v s i j b k x n p)
 
   pub helper_does : (ts us : List Task) (out : List Step) (r i j b s : ℕ) (m : Option Mark) → Helper (kind_at plan.rules r) → EndsLeastAlt plan b r i j s → us ≡ ts ++ task.Before s i j b ∷ [] → Does plan (task.Tree (sy.Rule r m) i j b) ts us out out
   helper_does ts us out r i j b s m helper (a, p, at) e = subst (λ z. Does plan (task.Tree (sy.Rule r m) i j b) ts z out out) (sym e) (helper_done r i j b s a p at ts out m helper)
 
-  pub named_does : (ts vs us : List Task) (out new : List Step) (r i j h s : ℕ) (m : Option Mark) (mark : Mark) → kind_at plan.rules r ≡ kind.Named → IsLeastHeight plan r i j h → EndsLeastAlt plan (h - 1) r i j s → mark ≡ unwrap_or m (mark_at plan.rules r) →
-      new ≡ out ++ step.Enter r mark ∷ [] → vs ≡ ts ++ task.Leave ∷ [] → us ≡ vs ++ task.Before s i j (h - 1) ∷ [] → (b : ℕ) → Does plan (task.Tree (sy.Rule r m) i j b) ts us out new
-  named_does ts vs us out new r i j h s m mark named l (a, p, at) is e f g b =
+  pub named_does : (ts us : List Task) (out new : List Step) (r i j h s : ℕ) (m : Option Mark) (mark : Mark) → kind_at plan.rules r ≡ kind.Named → IsLeastHeight plan r i j h → EndsLeastAlt plan (h - 1) r i j s → mark ≡ unwrap_or m (mark_at plan.rules r) →
+      new ≡ out ++ step.Enter r mark ∷ [] → us ≡ ts ++ task.Leave ∷ task.Before s i j (h - 1) ∷ [] → (b : ℕ) → Does plan (task.Tree (sy.Rule r m) i j b) ts us out new
+  named_does ts us out new r i j h s m mark named l (a, p, at) is e f b =
       let up : h ≡ (h - 1) + 1 = omega (arith, (named_tree plan r i j h named l).0) in
-      let tasks : us ≡ ts ++ task.Leave ∷ task.Before s i j (h - 1) ∷ [] = g ∙ ap (λ z. z ++ task.Before s i j (h - 1) ∷ []) f ∙ append_assoc ts (task.Leave ∷ []) (task.Before s i j (h - 1) ∷ []) in
       subst (λ z. Does plan (task.Tree (sy.Rule r m) i j b) ts us out z) (sym e)
-      (subst (λ z. Does plan (task.Tree (sy.Rule r m) i j b) ts z out (out ++ step.Enter r mark ∷ [])) (sym tasks)
+      (subst (λ z. Does plan (task.Tree (sy.Rule r m) i j b) ts z out (out ++ step.Enter r mark ∷ [])) (sym f)
       (named_done r i j (h - 1) s a p at ts out b m mark named (subst (λ (z : ℕ). IsLeastHeight plan r i j z) up l) (is ∙ mark_is plan r m _)))

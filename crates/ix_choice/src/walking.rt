@@ -41,18 +41,20 @@ fn do_before(
 {
     if let Some((before, sym)) = forest.before(slot) {
         let pivot = forest.start(before, sym, low, high, bound);
-        tasks.push(Task::Tree {
+        let last = Task::Tree {
             sym,
             low: pivot,
             high,
             bound,
-        })?;
-        tasks.push(Task::Before {
+        };
+        let others = Task::Before {
             slot: before,
             low,
             high: pivot,
             bound,
-        })?;
+        };
+        // The last task is done first.
+        tasks.extend_from_slice(&[last, others])?;
     }
     Ok(())
 }
@@ -74,12 +76,13 @@ fn do_helper(
     ensures { OnOk result ((steps : List AStep) → Does forest.now (task.Tree (sym.Rule rule mark) low high bound) tasks.old.items tasks.new.items steps steps) }
 {
     let slot = forest.alternative(rule, low, high, bound);
-    tasks.push(Task::Before {
+    let inside = Task::Before {
         slot,
         low,
         high,
         bound,
-    })?;
+    };
+    tasks.push(inside)?;
     Ok(())
 }
 
@@ -99,17 +102,17 @@ fn do_named(
     requires named { kind_at forest.now.rules rule ≡ Named }
     ensures { OnOk result ((b : ℕ) → Does forest.now (task.Tree (sym.Rule rule mark) low high b) tasks.old.items tasks.new.items steps.old.items steps.new.items) }
 {
-    let bound = forest.rule_height(rule, low, high) - 1;
-    let slot = forest.alternative(rule, low, high, bound);
+    let lowered = forest.rule_height(rule, low, high) - 1;
+    let slot = forest.alternative(rule, low, high, lowered);
     let mark = mark.unwrap_or(forest.mark(rule));
-    steps.push(Step::Enter { name: rule, mark })?;
-    tasks.push(Task::Leave)?;
-    tasks.push(Task::Before {
+    let inside = Task::Before {
         slot,
         low,
         high,
-        bound,
-    })?;
+        bound: lowered,
+    };
+    steps.push(Step::Enter { name: rule, mark })?;
+    tasks.extend_from_slice(&[Task::Leave, inside])?;
     Ok(())
 }
 

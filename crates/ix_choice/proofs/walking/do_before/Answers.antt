@@ -25,5 +25,5 @@ start-pivot-requires-clause-some c =
 pub returns-in_default : goal.returns-in_default
 returns-in_default c = λ steps. nothing_done c.args.forest.now c.args.tasks.now.items steps c.args.slot c.args.low c.args.high c.args.bound (c.before-2.ensures.none c.in_default.is)
 
-pub returns-in_ok-push-2 : goal.returns-in_ok-push-2
-returns-in_ok-push-2 c = λ steps. start_does c.args.forest.now c.requires.planned c.requires.nested c.args.tasks.now.items c.push.new.self.items c.push-in-Some.new.self.items steps c.in-Some.before c.args.slot c.args.low c.args.high c.args.bound c.start-pivot.result c.in-Some.sym c.in-Some.ensures.some.1 c.start-pivot.ensures c.in_ok-push.ensures.items c.in_ok-push-2.ensures.items
+pub returns-in_ok-extend_from_slice : goal.returns-in_ok-extend_from_slice
+returns-in_ok-extend_from_slice c = λ steps. start_does c.args.forest.now c.requires.planned c.requires.nested c.args.tasks.now.items c.extend_from_slice.new.self.items steps c.in-Some.before c.args.slot c.args.low c.args.high c.args.bound c.start-pivot.result c.in-Some.sym c.in-Some.ensures.some.1 c.start-pivot.ensures c.in_ok-extend_from_slice.ensures.items
