@@ -1,2 +1,6 @@
+pub mod Answers
 pub mod Compiled
+pub mod Counting
+pub mod Faults
+pub mod Parsed
 pub mod Refusals

@@ -2,11 +2,14 @@
 #![tactic(auto)]
 
 mod grammar;
-mod laws;
+pub mod laws;
+mod outcome;
+mod parsing;
 mod refusal;
 
 pub use grammar::compile;
-pub use laws::no_bytes;
+pub use outcome::{DynFault, Outcome, ParseFault};
+pub use parsing::parse_alone;
 pub use refusal::Refusal;
 
 #[cfg(test)]
