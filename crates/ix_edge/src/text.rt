@@ -1,4 +1,6 @@
 ghost use Rattle.std.specs.Prelude.{◌≡◌, ◌≤◌, ℕ, length, IfOk, IsUtf8, Err};
+ghost use Rattle.std.specs.Char.{IsScalar};
+ghost use Rattle.std.specs.List.{AllByRecursion};
 ghost use Rattle.std.specs.Str.{chars};
 ghost use Rattle.std.specs.Str.Lossy.{utf8_valid_len};
 ghost use Rattle.ix_model.specs.Answers.Decoding.{decoded};
@@ -12,6 +14,7 @@ use std::alloc::{AllocError, Global};
 pub fn decode(alloc: Global, bytes: &[u8]) -> Result<Vec<char>, TextFault>
     ensures text { IfOk result (λ _. IsUtf8 bytes.now) }
     ensures ok { IfOk result (λ v. v.items ≡ decoded bytes.now) }
+    ensures scalars { IfOk result (λ v. AllByRecursion IsScalar v.items) }
     ensures few { IfOk result (λ v. length v.items ≤ length bytes.now) }
     ensures not_utf8 { (valid : ℕ) → result ≡ Err (TextFault.NotUtf8 valid) → ¬ (IsUtf8 bytes.now) × (valid ≡ utf8_valid_len bytes.now) }
 {
