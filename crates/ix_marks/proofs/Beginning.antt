@@ -10,11 +10,11 @@ use Rattle.ix_marks.specs.declared.building.Open.{Open}
 use Rattle.ix_marks.specs.declared.building.Open.TheVariants as open_node
 use Rattle.ix_model.proofs.AllOf.{all_append}
 use Rattle.ix_marks.specs.Building.{AreOpen, IsInState, Stands, with_chars}
-use Rattle.ix_marks.specs.Counted.{attribute_count}
+use Rattle.ix_marks.specs.Counted.{attribute_count, run_length}
 use Rattle.ix_marks.specs.InRange.{AreItemsIn, IsItemIn}
 use Rattle.ix_marks.specs.Levels.{State, outside, inside, enter, read}
 use Rattle.ix_marks.proofs.Growing.{attributes_still, items_still, open_grows, deep_grows}
-use Rattle.ix_marks.proofs.Runs.{chars_counted, chars_in, open_chars}
+use Rattle.ix_marks.proofs.Runs.{chars_counted, chars_fit, chars_in, open_chars}
 
 not_both : {A : Type 0} (b : Bool) → b ≡ true → b ≡ false → A
 not_both b h k = absurd (cc)
@@ -31,6 +31,7 @@ module _ (names : List (List ℕ)) (attrs : List Attr) (chars : List ℕ) where
     attrs_in = attributes_still names chars more attrs h.attrs_in;
     waiting_in = attributes_still names chars more waiting h.waiting_in;
     counted = h.counted;
+    runs_fit = h.runs_fit;
     low_in = omega (arith, h.low_in, length-append chars more);
     state = state st h.state;
   }
@@ -53,6 +54,7 @@ module _ (names : List (List ℕ)) (attrs : List Attr) (chars : List ℕ) where
     attrs_in = h.attrs_in;
     waiting_in = h.waiting_in;
     counted = omega (arith, h.counted, chars_counted items low (length chars), sum_by-append attribute_count (with_chars items low (length chars)) (Begin n 0 0 ∷ []));
+    runs_fit = omega (arith, chars_fit items low (length chars) h.low_in h.runs_fit, sum_by-append run_length (with_chars items low (length chars)) (Begin n 0 0 ∷ []));
     low_in = omega arith;
     state = state st h.state;
   }
@@ -89,6 +91,7 @@ module _ (names : List (List ℕ)) (attrs : List Attr) (chars : List ℕ) where
     attrs_in = h.attrs_in;
     waiting_in = h.waiting_in;
     counted = chars_counted items low (length chars) ∙ h.counted;
+    runs_fit = chars_fit items low (length chars) h.low_in h.runs_fit;
     low_in = omega arith;
     state = state st h.state;
   }

@@ -9,7 +9,7 @@ use Rattle.ix_marks.specs.declared.item.Attr.{Attr}
 use Rattle.ix_marks.specs.declared.building.Open.{Open}
 use Rattle.ix_model.proofs.AllOf.{all_append}
 use Rattle.ix_marks.specs.Building.{AreOpen, with_chars}
-use Rattle.ix_marks.specs.Counted.{attribute_count}
+use Rattle.ix_marks.specs.Counted.{attribute_count, run_length}
 use Rattle.ix_marks.specs.InRange.{AreItemsIn, IsItemIn}
 use Rattle.ix_marks.specs.Levels.{Level, flush}
 use Rattle.ix_marks.specs.Pieces.{Attribute, Piece, characters}
@@ -30,6 +30,14 @@ chars_counted items low high = by (ltb low high)
     by : (b : Bool) → sum_by attribute_count (cond b (items ++ Chars low high ∷ []) items) ≡ sum_by attribute_count items
     by true = omega (arith, sum_by-append attribute_count items (Chars low high ∷ []))
     by false = refl
+
+-- and no more characters than there are before its end
+pub chars_fit : (items : List Item) (low high : ℕ) → low ≤ high → sum_by run_length items ≤ low → sum_by run_length (with_chars items low high) ≤ high
+chars_fit items low high l h = by (ltb low high)
+  where
+    by : (b : Bool) → sum_by run_length (cond b (items ++ Chars low high ∷ []) items) ≤ high
+    by true = omega (arith, l, h, sum_by-append run_length items (Chars low high ∷ []))
+    by false = omega (arith, l, h)
 
 module _ (names : List (List ℕ)) (attrs : List Attr) (chars : List ℕ) where
   -- the characters behind the items become an item

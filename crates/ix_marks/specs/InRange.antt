@@ -1,9 +1,10 @@
 -- What a marked tree names is there.
-use Rattle.std.specs.Prelude.{ℕ, ◌<◌, ◌≤◌, List, length}
+use Rattle.std.specs.Prelude.{ℕ, ◌<◌, ◌≤◌, List, length, sum_by}
 use Rattle.std.specs.List.{AllByRecursion}
 use Rattle.ix_marks.specs.declared.item.Item.{Item}
 use Rattle.ix_marks.specs.declared.item.Item.TheVariants.{Begin, Close, Chars}
 use Rattle.ix_marks.specs.declared.item.Attr.{Attr}
+use Rattle.ix_marks.specs.Counted.{run_length}
 use Rattle.ix_marks.specs.MarkedLists.{MarkedLists}
 
 module _ (names : List (List ℕ)) where
@@ -24,8 +25,10 @@ module _ (names : List (List ℕ)) where
   abbrev pub AreItemsIn : List Attr → List ℕ → List Item → Type 0
   AreItemsIn attrs chars items = AllByRecursion (IsItemIn attrs chars) items
 
-  -- with all items, all attributes of elements, and all that no element has
+  -- with all items, all attributes of elements, and all that no element has; the runs have no more characters than there are, so that
+  -- who counts them never counts too far
   pub record AreIn (m : MarkedLists) : Type 0 where
     pub items_in : AreItemsIn m.attrs m.chars m.items
     pub attrs_in : AreAttrsIn m.chars m.attrs
     pub top_in : AreAttrsIn m.chars m.top
+    pub runs_fit : sum_by run_length m.items ≤ length m.chars

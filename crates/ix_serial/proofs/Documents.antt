@@ -1,11 +1,13 @@
 -- The bytes of the pieces, one after the other, are the document.
-use Rattle.std.proofs.Common.{◌≡◌, refl, ap, sym, subst, ◌∙◌, ℕ, zero, suc, Bool, true, false, Some, slice_get, List, [], ◌∷◌, ◌++◌, append_assoc, arith, map}
+use Rattle.std.proofs.Common.{◌≡◌, refl, ap, sym, subst, ◌∙◌, ℕ, zero, suc, Bool, true, false, Some, slice_get, List, [], ◌∷◌, ◌++◌, append_assoc, arith, map, ◌+◌, ◌<◌, length, drop, get_or}
 use Rattle.std.specs.Prelude.{codes}
 use Rattle.std.specs.List.{flat_map, AllByRecursion}
+use Rattle.std.proofs.lemmas.List.{at_drop_more}
 use Rattle.ix_model.specs.declared.state.State.{State}
 use Rattle.ix_model.specs.Documents.Dyn.{HasNoRefusal, attribute_at_top, not_one_element, attribute_names, element_count, character_count}
 use Rattle.ix_model.specs.Documents.Gives.{attribute, element, run, Givens, nothing, followed}
 use Rattle.ix_model.specs.Documents.Xml.{content_bytes, name_bytes, state_bytes, xml}
+use Rattle.ix_marks.specs.declared.item.Item.{Item}
 use Rattle.ix_marks.specs.InRange.{AreIn}
 use Rattle.ix_marks.specs.MarkedLists.{MarkedLists}
 use Rattle.ix_marks.specs.Meaning.{piece_of}
@@ -15,7 +17,7 @@ use Rattle.ix_marks.specs.Telling.{names_of, elements_at, characters_at}
 use Rattle.ix_marks.specs.Writing.{attributes_written, written, document, IsSolid}
 use Rattle.ix_marks.proofs.Telling.{pieces_tell}
 use Rattle.ix_marks.proofs.Writing.{runs_are_solid, document_is_written}
-use Rattle.ix_serial.specs.PieceBytes.{pieces_bytes}
+use Rattle.ix_serial.specs.PieceBytes.{piece_bytes, opens_tag, pieces_bytes}
 
 -- ---- piece by piece
 
@@ -77,6 +79,14 @@ one_element : (gs : Givens) → HasNoRefusal gs → (element_count gs ≡ 1) × 
 one_element gs h = counted (element_count gs) (character_count gs) (λ p. h (not_one_element (element_count gs) (character_count gs)) (refl, refl, p))
 
 -- ---- the document
+
+-- one item more is written
+pub one_more : (say : Item → Piece) (text words : List ℕ) (tag_open : Bool) (items : List Item) (i : ℕ) (x : Item) → i < length items →
+    (text ++ piece_bytes words tag_open (say (get_or items i x))) ++ pieces_bytes [] (opens_tag (say (get_or items i x))) (map say (drop (i + 1) items))
+    ≡ text ++ pieces_bytes words tag_open (map say (drop i items))
+one_more say text words tag_open items i x l =
+    append_assoc text (piece_bytes words tag_open (say (get_or items i x))) (pieces_bytes [] (opens_tag (say (get_or items i x))) (map say (drop (i + 1) items)))
+    ∙ sym (at_drop_more (λ (xs : List Item). text ++ pieces_bytes words tag_open (map say xs)) items i x l)
 
 -- one element with nothing beside it is written by its pieces
 one_written : (state : State) (gs : Givens) → AllByRecursion IsSolid (pieces gs) → attributes gs ≡ [] → element_count gs ≡ 1 → character_count gs ≡ 0 →

@@ -1,0 +1,5 @@
+pub mod Examples
+pub mod Items
+pub mod Least
+pub mod Refusals
+pub mod Top
