@@ -80,10 +80,17 @@ fn answers_texts_or_says_why_not(rt: HostRuntime) -> Result<(), Fail> {
             })
         )
     );
-    assert!(rt; matches!(answer(alloc, b"S: \"a\".", b"a\xC3"), Err(ParseFault::NotUtf8 { valid: 1 })));
-    let Err(ParseFault::Dynamic(DynFault::SameAttribute { name })) =
-        answer(alloc, b"S: @x, @x. x: \"1\".", b"11")
-    else {
+    assert!(rt;
+        matches!(
+            answer(alloc, b"S: \"a\".", b"a\xC3"),
+            Err(ParseFault::NotUtf8 { valid: 1 })
+        )
+    );
+    let Err(ParseFault::Dynamic(DynFault::SameAttribute { name })) = answer(
+        alloc,
+        b"S: @x, @x. x: \"1\".",
+        b"11",
+    ) else {
         panic!(rt; "the element has two attributes of one name");
     };
     assert_eq!(rt; name.as_slice(), ['x'].as_slice());

@@ -25,7 +25,7 @@ returns-clause-tree c = (
   document (text_of (codes "a")),
   ((omega arith, (codes "a", (refl, refl))), a_parsed),
   record { items = refl; top = refl },
-  record { items_in = ((omega arith, omega arith, omega arith), ((omega arith, omega arith), (omega arith, tt))); attrs_in = tt; top_in = tt },
+  record { items_in = ((omega arith, omega arith, omega arith), ((omega arith, omega arith), (omega arith, tt))); attrs_in = tt; top_in = tt; runs_fit = omega arith },
   record { plan_of = plan_of_a; text = refl; counts_of = counts_on_a },
 )
 

@@ -17,12 +17,11 @@ place-line-requires-clause-small c =
 pub returns : goal.returns
 returns c = λ g bytes is.
     let plan = c.args.plan.now in
-    let offset = c.args.closed.now.furthest in
-    (
+    let offset = c.args.closed.now.furthest in (
       answers_failed g bytes plan is offset c.place-line.result.line c.place-line.result.column (λ d. c.requires.none g d is.plan_of)
-        ((c.furthest_is_offset.ensures g plan offset is.plan_of c.slot_count.ensures.planned).0 c.requires.furthest)
-        (c.place-line.ensures.line ∙ ap (λ (s : List ℕ). line_of s offset) c.text.ensures)
-        (c.place-line.ensures.column ∙ ap (λ (s : List ℕ). column_of s offset) c.text.ensures),
+          ((c.furthest_is_offset.ensures g plan offset is.plan_of c.slot_count.ensures.planned).0 c.requires.furthest)
+          (c.place-line.ensures.line ∙ ap (λ (s : List ℕ). line_of s offset) c.text.ensures)
+          (c.place-line.ensures.column ∙ ap (λ (s : List ℕ). column_of s offset) c.text.ensures),
       plan,
       record { plan_of = is.plan_of; text = is.text; counts_of = c.requires.counts },
     )

@@ -28,8 +28,7 @@ pub returns-clause-ok : goal.returns-clause-ok
 returns-clause-ok c = λ g bytes is.
     let first = c.in_ok-marked.ensures.first g is.plan_of in
     let gs = gives_root c.args.plan.text g first.0 in
-    let none : HasNoRefusal gs = subst (IsFaultOf gs) c.in_default.is (c.in_ok-fault.ensures gs first.2) in
-    (
+    let none : HasNoRefusal gs = subst (IsFaultOf gs) c.in_default.is (c.in_ok-fault.ensures gs first.2) in (
       gs,
       answers_document g bytes c.args.plan is gs c.state_of-state.result first.0 first.1 refl none (c.state_of-state.ensures g is.plan_of),
       first.2,
