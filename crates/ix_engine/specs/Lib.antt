@@ -1,2 +1,9 @@
+pub mod Answers
 pub mod Compiled
+pub mod Counting
+pub mod Examples
+pub mod Faults
+pub mod Laws
+pub mod Parsed
+pub mod PlanFor
 pub mod Refusals

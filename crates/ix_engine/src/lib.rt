@@ -1,12 +1,19 @@
 //! A grammar and a text, from bytes to what they mean.
 #![tactic(auto)]
 
+mod choosing;
+mod closing;
 mod grammar;
-mod laws;
+pub mod laws;
+mod outcome;
+mod parsing;
+mod planning;
 mod refusal;
+mod refusing;
 
 pub use grammar::compile;
-pub use laws::no_bytes;
+pub use outcome::{DynFault, Outcome, ParseFault};
+pub use parsing::parse_alone;
 pub use refusal::Refusal;
 
 #[cfg(test)]

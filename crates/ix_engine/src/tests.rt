@@ -1,4 +1,6 @@
-use crate::{Refusal, compile};
+use crate::{DynFault, Outcome, ParseFault, Refusal, compile, parse_alone};
+use ix_model::{Counts, State};
+use std::alloc::Global;
 use std::test::Fail;
 
 #[test]
@@ -24,5 +26,73 @@ fn compiles_bytes_or_says_why_not(rt: HostRuntime) -> Result<(), Fail> {
             })
         )
     );
+    Ok(())
+}
+
+// What comes of the text under the grammar.
+fn answer(alloc: Global, grammar: &[u8], text: &[u8]) -> Result<Outcome, ParseFault> {
+    match compile(alloc, grammar) {
+        Ok(grammar) => parse_alone(alloc, &grammar, text),
+        Err(_) => Err(ParseFault::Memory),
+    }
+}
+
+#[test]
+fn answers_texts_or_says_why_not(rt: HostRuntime) -> Result<(), Fail> {
+    let alloc = rt.alloc();
+    assert!(rt;
+        matches!(
+            answer(alloc, b"S: \"a\".", b"a"),
+            Ok(Outcome::Tree {
+                state: State::Single,
+                counts: Counts {
+                    descriptors: 2,
+                    subtrees: 1
+                },
+                ..
+            })
+        )
+    );
+    assert!(rt;
+        matches!(
+            answer(alloc, b"S: \"a\"; \"a\".", b"a"),
+            Ok(Outcome::Tree {
+                state: State::Ambiguous,
+                counts: Counts {
+                    descriptors: 4,
+                    subtrees: 2
+                },
+                ..
+            })
+        )
+    );
+    assert!(rt;
+        matches!(
+            answer(alloc, b"S: \"a\", #a, \"b\".", b"a\nc"),
+            Ok(Outcome::Failed {
+                offset: 2,
+                line: 2,
+                column: 1,
+                counts: Counts {
+                    descriptors: 3,
+                    subtrees: 0
+                }
+            })
+        )
+    );
+    assert!(rt;
+        matches!(
+            answer(alloc, b"S: \"a\".", b"a\xC3"),
+            Err(ParseFault::NotUtf8 { valid: 1 })
+        )
+    );
+    let Err(ParseFault::Dynamic(DynFault::SameAttribute { name })) = answer(
+        alloc,
+        b"S: @x, @x. x: \"1\".",
+        b"11",
+    ) else {
+        panic!(rt; "the element has two attributes of one name");
+    };
+    assert_eq!(rt; name.as_slice(), ['x'].as_slice());
     Ok(())
 }

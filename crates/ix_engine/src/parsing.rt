@@ -1,0 +1,104 @@
+ghost use Rattle.std.specs.Prelude.{◌≤◌, ◌<◌, List, ℕ, IfOk, IfErr, length};
+ghost use Rattle.ix_model.specs.declared.grammar.Grammar.{Grammar as AGrammar};
+ghost use Rattle.ix_model.specs.Answers.Limits.{grammar_limit};
+ghost use Rattle.ix_model.specs.Derivations.Derives.{IsDerivation};
+ghost use Rattle.ix_model.specs.Derivations.Trees.{Tree};
+ghost use Rattle.ix_model.specs.Expansion.Planned.{IsPlanOf};
+ghost use Rattle.ix_model.specs.Grammars.Breach.{Conforming};
+ghost use Rattle.ix_model.specs.Grammars.Size.{size};
+ghost use Rattle.ix_offset_laws.specs.Furthest.{Furthest};
+ghost use Rattle.ix_subtrees.specs.Sets.{IsSetOf};
+ghost use Rattle.ix_engine.specs.Parsed.{AreCounts, IsOutcome, IsFault};
+ghost use Rattle.ix_engine.specs.PlanFor.{IsPlanFor};
+
+use crate::choosing::{first_marked, state_of};
+use crate::closing::{Closed, closed_of};
+use crate::outcome::{Outcome, ParseFault};
+use crate::planning::plan_of;
+use crate::refusing::refused;
+use ix_edge::{Place, decode, place};
+use ix_marks::laws::names_are_distinct;
+use ix_model::{Grammar, Plan};
+use ix_offset_laws::laws::furthest_is_offset;
+use std::alloc::Global;
+
+const MOST: usize = 16_777_216;
+
+/// What comes of the bytes of a text under a conforming grammar, by the work of one thread (Invisible XML 1.0, "Parsing").
+///
+/// The first that applies is answered, in this order: `TooLong`, over 16,777,216 bytes; `NotUtf8`, with the length of the
+/// longest front that is UTF-8, in bytes; `Failed`, where the text has no derivation; `Dynamic`, where what the first
+/// derivation gives is no document; else `Tree`. Each comes exactly where it applies and none before it does. `Memory` may
+/// come anywhere. One byte order mark at the front is no character of the text. Which derivation is the first, and the offset
+/// of a text without one, are this project's own.
+pub fn parse_alone(alloc: Global, grammar: &Grammar, bytes: &[u8]) -> Result<Outcome, ParseFault>
+    requires conforming { Conforming grammar.now }
+    requires small { size grammar.now ≤ grammar_limit }
+    ensures ok { IfOk result (IsOutcome grammar.now bytes.now) }
+    ensures err { IfErr result (IsFault grammar.now bytes.now) }
+{
+    if bytes.len() > MOST {
+        return Err(ParseFault::TooLong);
+    }
+    let chars = decode(alloc, bytes)?;
+    let plan = plan_of(alloc, grammar, chars)?;
+    parse_plan(alloc, plan)
+}
+
+// What comes of the text of the plan.
+fn parse_plan(alloc: Global, plan: Plan) -> Result<Outcome, ParseFault>
+    requires { (g : AGrammar) × (bytes : List ℕ) × IsPlanFor g bytes plan }
+    ensures ok { (g : AGrammar) (bytes : List ℕ) → IsPlanFor g bytes plan → IfOk result (IsOutcome g bytes) }
+    ensures err { (g : AGrammar) (bytes : List ℕ) → IsPlanFor g bytes plan → IfErr result (IsFault g bytes) }
+{
+    let closed = closed_of(alloc, &plan)?;
+    if closed.set.root() {
+        parsed(alloc, plan, &closed)
+    } else {
+        Ok(failed(&plan, &closed))
+    }
+}
+
+// What comes of a text that has a derivation.
+fn parsed(alloc: Global, plan: Plan, closed: &Closed) -> Result<Outcome, ParseFault>
+    requires plan_for { (g : AGrammar) × (bytes : List ℕ) × IsPlanFor g bytes plan }
+    requires set { IsSetOf plan closed.now.set }
+    requires root { 0 < length closed.now.set.ways }
+    requires counts { AreCounts plan closed.now.counts }
+    ensures ok { (g : AGrammar) (bytes : List ℕ) → IsPlanFor g bytes plan → IfOk result (IsOutcome g bytes) }
+    ensures err { (g : AGrammar) (bytes : List ℕ) → IsPlanFor g bytes plan → IfErr result (IsFault g bytes) }
+{
+    names_are_distinct();
+    let marked = first_marked(alloc, &plan, &closed.set)?;
+    if let Some(fault) = refused(alloc, &plan, &marked)? {
+        return Err(ParseFault::Dynamic(fault));
+    }
+    let state = state_of(&plan, &closed.set);
+    Ok(Outcome::Tree {
+        plan,
+        marked,
+        state,
+        counts: closed.counts,
+    })
+}
+
+// How far a text could be read that has no derivation.
+fn failed(plan: &Plan, closed: &Closed) -> Outcome
+    requires plan_for { (g : AGrammar) × (bytes : List ℕ) × IsPlanFor g bytes plan.now }
+    requires none { (g : AGrammar) (d : Tree) → IsPlanOf g plan.now → ¬ (IsDerivation g plan.now.text d) }
+    requires furthest { Furthest plan.now closed.now.furthest }
+    requires counts { AreCounts plan.now closed.now.counts }
+    ensures { (g : AGrammar) (bytes : List ℕ) → IsPlanFor g bytes plan.now → IsOutcome g bytes result }
+{
+    furthest_is_offset();
+    // What holds of each plan.
+    let _ = plan.slot_count();
+    let offset = closed.furthest;
+    let Place { line, column } = place(plan.text(), offset);
+    Outcome::Failed {
+        offset,
+        line,
+        column,
+        counts: closed.counts,
+    }
+}
