@@ -1,3 +1,4 @@
+pub mod FromParts
 pub mod Gathered
 pub mod Parsing
 pub mod ReadAreTaken

@@ -1,22 +1,9 @@
 -- Words that are read, with values that are operands by themselves, are taken by `clap`'s walk to the end.
-use Rattle.std.proofs.Common.{◌≡◌, refl, sym, ap, ap₂, subst, ◌∙◌, ℕ, Bool, true, false, cond, ◌&&◌, ◌||◌, ◌==◌, List, [], ◌∷◌, ◌++◌, append-nil, fold, length, Option, Some, None, slice_get, codes, chars, IsUtf8}
-use Rattle.std.specs.Prelude.{if◌then◌else◌}
-use Rattle.std.specs.Option.{option_map_or}
-use Rattle.std.specs.List.{before_first}
-use Rattle.std.specs.Str.{bytes_eq}
-use Rattle.clap.specs.Lexer.{long_of, short_of, name_and_value}
-use Rattle.clap.specs.Walk.{Held, Row, Rule, Step, Text, Waiting, Walk, after_step, arg_by_long, idle, is_pending, long_or_other, long_word, option, plain_word, positional, pushed, settled, settled_rows, short_or_plain, trailing, used, value, walked, word_met}
-use Rattle.clap.specs.Simple.{Shape, new_shape}
-use Rattle.clap.specs.Kinds.{Kinds, or_else}
-use Rattle.clap.specs.Faults.{bundle_fault, flag_word_fault, flags_fault, bundle_step_fault, long_fault, settle_fault, step_fault, turn_fault, walk_fault, word_fault}
-use Rattle.clap.specs.declared.builder.range.ValueRange.{ValueRange}
-use Rattle.clap.specs.declared.builder.value_parser.ValueParser.TheVariants as vp
-use Rattle.clap.specs.declared.error.kind.ErrorKind.TheVariants.{UnknownArgument, InvalidValue}
+use Rattle.std.proofs.Common.{refl, true, false, List, [], ◌∷◌, Some, None, codes}
+use Rattle.clap.specs.Walk.{Row, Waiting, idle, positional, used}
+use Rattle.clap.specs.Faults.{walk_fault}
 use Rattle.ix_model.specs.Answers.CommandLine.{IsOperand, Reads, no_word, end_of_options, next_value, joined_value, operand as one_operand}
-use Rattle.ix_words.specs.ReaderApp.{operand_rule, workers_rule}
-use Rattle.ix_words.proofs.Gathered.{texts_at, texts_more, texts_stay}
-use Rattle.ix_words.proofs.WordForms.{WordForm, ends, names, joins, strays, shorts, plains, form_of, is_equals, Looks, looks_end, looks_named, looks_joined, looks_stray, looks_short, looks_plain, a_character}
-use Rattle.ix_words.proofs.Turns.{operand, workers, Words, Pending, at, IsFree, Passes, settle, as_operand, trailing_goes, plain_goes, end_goes, waits_at, named_goes, joined_goes, value_goes}
+use Rattle.ix_words.proofs.Turns.{workers, Words, Pending, at, IsFree, Passes, settle, as_operand, trailing_goes, plain_goes, end_goes, waits_at, named_goes, joined_goes, value_goes}
 use Rattle.ix_words.proofs.TakenAreRead.{Taken, taken_on}
 
 -- ---- words that are read are taken

@@ -1,22 +1,12 @@
 -- Words that `clap`'s walk takes to the end are read, and its rows have the operands and the values of the reading.
-use Rattle.std.proofs.Common.{◌≡◌, refl, sym, ap, ap₂, subst, ◌∙◌, ℕ, Bool, true, false, cond, ◌&&◌, ◌||◌, ◌==◌, List, [], ◌∷◌, ◌++◌, append-nil, fold, length, Option, Some, None, slice_get, codes, chars, IsUtf8}
-use Rattle.std.specs.Prelude.{if◌then◌else◌}
-use Rattle.std.specs.Option.{option_map_or}
-use Rattle.std.specs.List.{before_first}
-use Rattle.std.specs.Str.{bytes_eq}
-use Rattle.clap.specs.Lexer.{long_of, short_of, name_and_value}
-use Rattle.clap.specs.Walk.{Held, Row, Rule, Step, Text, Waiting, Walk, after_step, arg_by_long, idle, is_pending, long_or_other, long_word, option, plain_word, positional, pushed, settled, settled_rows, short_or_plain, trailing, used, value, walked, word_met}
-use Rattle.clap.specs.Simple.{Shape, new_shape}
-use Rattle.clap.specs.Kinds.{Kinds, or_else}
-use Rattle.clap.specs.Faults.{bundle_fault, flag_word_fault, flags_fault, bundle_step_fault, long_fault, settle_fault, step_fault, turn_fault, walk_fault, word_fault}
-use Rattle.clap.specs.declared.builder.range.ValueRange.{ValueRange}
-use Rattle.clap.specs.declared.builder.value_parser.ValueParser.TheVariants as vp
-use Rattle.clap.specs.declared.error.kind.ErrorKind.TheVariants.{UnknownArgument, InvalidValue}
-use Rattle.ix_model.specs.Answers.CommandLine.{IsOperand, Reads, no_word, end_of_options, next_value, joined_value, operand as one_operand}
-use Rattle.ix_words.specs.ReaderApp.{operand_rule, workers_rule}
+use Rattle.std.proofs.Common.{◌≡◌, refl, sym, ap, subst, ◌∙◌, true, false, List, [], ◌∷◌, ◌++◌, append-nil, fold, Some, None, codes, IsUtf8}
+use Rattle.clap.specs.Walk.{Row, Text, Waiting, Walk, idle, option, positional, settled, used, walked}
+use Rattle.clap.specs.Kinds.{or_else}
+use Rattle.clap.specs.Faults.{settle_fault, turn_fault, walk_fault}
+use Rattle.ix_model.specs.Answers.CommandLine.{Reads, no_word, end_of_options, next_value, joined_value, operand as one_operand}
 use Rattle.ix_words.proofs.Gathered.{texts_at, texts_more, texts_stay}
-use Rattle.ix_words.proofs.WordForms.{WordForm, ends, names, joins, strays, shorts, plains, form_of, is_equals, Looks, looks_end, looks_named, looks_joined, looks_stray, looks_short, looks_plain, a_character}
-use Rattle.ix_words.proofs.Turns.{operand, workers, rules, shape, Words, Pending, held, at, IsFree, Passes, settle, first_none, second_none, both_none, as_operand, Goes, trailing_goes, plain_goes, end_goes, waits_at, named_goes, joined_goes, value_goes, stray_fails, short_fails, waiting_pending, waiting_named_fails, waiting_joined_fails, trailing_fails, waiting_end_fails}
+use Rattle.ix_words.proofs.WordForms.{WordForm, ends, names, joins, strays, shorts, plains, form_of}
+use Rattle.ix_words.proofs.Turns.{workers, rules, shape, Words, Pending, at, IsFree, Passes, settle, first_none, second_none, both_none, as_operand, Goes, trailing_goes, plain_goes, end_goes, waits_at, named_goes, joined_goes, value_goes, stray_fails, short_fails, waiting_pending, waiting_named_fails, waiting_joined_fails, trailing_fails, waiting_end_fails}
 
 -- the rows have these operands and these values
 abbrev pub Holds : (operands values : List Text) → List Row → Type 0

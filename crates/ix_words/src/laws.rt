@@ -2,11 +2,14 @@
 ghost use Rattle.std.specs.Prelude.{◌≡◌, [], ◌∷◌, true, false, Some, String, codes, string_bytes};
 ghost use Rattle.std.specs.declared.alloc.Global.{Global};
 ghost use Rattle.clap.specs.Words.{fault_of};
+ghost use Rattle.clap.specs.Walk.{Row};
 ghost use Rattle.clap.specs.declared.error.kind.ErrorKind.TheVariants.{InvalidValue, UnknownArgument};
+ghost use Rattle.clap.specs.declared.parser.matches.ArgMatches.{ArgMatches};
 ghost use Rattle.ix_model.specs.Answers.CommandLine.{parse, check, sample};
 ghost use Rattle.ix_words.specs.Asked.{asked};
 ghost use Rattle.ix_words.specs.CommandNames.{names_command};
-ghost use Rattle.ix_words.specs.Examples.{read_by_clap};
+ghost use Rattle.ix_words.specs.Examples.{HasOperandsAndWorkers, read_by_clap};
+ghost use Rattle.ix_words.specs.Given.{given};
 ghost use Rattle.ix_words.specs.NameAndParts.{IsRead};
 ghost use Rattle.ix_words.specs.ReaderApp.{reader_app};
 ghost use Rattle.ix_words.specs.declared.command.Command.TheVariants.{Parse, Check, Sample};
@@ -39,6 +42,13 @@ pub fn words_with_their_parts()
     ensures another_order { ¬ (IsRead (codes "parse" ∷ codes "g" ∷ codes "t" ∷ []) (codes "parse") (codes "t" ∷ codes "g" ∷ []) []) }
     ensures another_name { ¬ (IsRead (codes "parse" ∷ codes "g" ∷ codes "t" ∷ []) (codes "check") (codes "g" ∷ codes "t" ∷ []) []) }
     ensures none { ¬ (IsRead [] (codes "parse") [] []) }
+{}
+
+/// The texts that a parse gives for an id are those of the row of that id, and none where there is no such row.
+pub fn texts_of_an_id()
+    ensures first { (m : ArgMatches) (o w : Row) → HasOperandsAndWorkers m o w → given (codes "operand") m ≡ o.values }
+    ensures second { (m : ArgMatches) (o w : Row) → HasOperandsAndWorkers m o w → given (codes "workers") m ≡ w.values }
+    ensures other { (m : ArgMatches) (o w : Row) → HasOperandsAndWorkers m o w → given (codes "worker") m ≡ [] }
 {}
 
 /// What `clap` is asked to read has the three commands, each with its operands and its values of `--workers` in order.
