@@ -6,8 +6,6 @@ use Rattle.ix_model.specs.Answers.CommandLine.{IsOperand, Reads, no_word, end_of
 use Rattle.ix_words.proofs.Turns.{workers, Words, Pending, at, IsFree, Passes, settle, as_operand, trailing_goes, plain_goes, end_goes, waits_at, named_goes, joined_goes, value_goes}
 use Rattle.ix_words.proofs.TakenAreRead.{Taken, taken_on}
 
--- ---- words that are read are taken
-
 abbrev pub AllOperands : Words → Type 0
 AllOperands [] = Unit {0}
 AllOperands (w ∷ ws) = IsOperand w × AllOperands ws
