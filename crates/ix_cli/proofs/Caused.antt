@@ -81,7 +81,7 @@ module _ (words : List (List ℕ)) (files : Told) where
     by_not_utf8 : IsNotUtf8 words files → Why
     by_too_long : OfText words files (λ g s. text_limit < length s) → Why
 
-  status_why : Why → ℕ
+  abbrev status_why : Why → ℕ
   status_why (by_document h) = 0
   status_why (by_no_derivation h) = 1
   status_why (by_no_form h) = 2
@@ -102,7 +102,7 @@ module _ (words : List (List ℕ)) (files : Told) where
       (w : Why) × (status_of o ≡ status_why w)
   why_answered grammar text bytes s g form e c t text_too_long h = (by_too_long (grammar, text, bytes, s, g, form, e, c, t, h), refl)
   why_answered grammar text bytes s g form e c t (text_not_utf8 valid) h = (by_not_utf8 (inr (grammar, text, bytes, s, g, form, e, c, t, (h.0, h.1))), refl)
-  why_answered grammar text bytes s g form e c t (failed offset line column) (u, (n, p)) = (by_no_derivation (grammar, text, bytes, s, g, form, e, c, t, (u, n)), refl)
+  why_answered grammar text bytes s g form e c t (failed offset line column) (u, (n, o, l, m)) = (by_no_derivation (grammar, text, bytes, s, g, form, e, c, t, (u, n)), refl)
   why_answered grammar text bytes s g form e c t (refused code) (u, (d, f, dyn)) = (by_no_document (grammar, text, bytes, s, g, form, e, c, t, (u, (d, f, (code, dyn)))), refl)
   why_answered grammar text bytes s g form e c t (document gs Single) (u, (d, f, q, n, a)) = (by_document (grammar, text, bytes, s, g, form, e, c, t, (u, (d, f, subst HasNoRefusal q n))), refl)
   why_answered grammar text bytes s g form e c t (document gs Ambiguous) (u, (d, f, q, n, a)) = (by_document (grammar, text, bytes, s, g, form, e, c, t, (u, (d, f, subst HasNoRefusal q n))), refl)
@@ -144,6 +144,7 @@ module _ (words : List (List ℕ)) (files : Told) where
   none_less (by_no_document h) (by_too_long l) less = two_texts GivesNoDocument (λ g s. text_limit < length s) (λ g s p q. omega (arith, p.0.0, q)) h l
   none_less (by_not_utf8 (inl h)) (by_too_long l) less = grammar_and_text (IsOther grammar_limit) (λ g s. text_limit < length s) (λ b g p c. p.1 c.0.0.1) h l
   none_less (by_not_utf8 (inr h)) (by_too_long l) less = two_texts (λ g s. IsOther text_limit s) (λ g s. text_limit < length s) (λ g s p q. omega (arith, p.0, q)) h l
+  none_less (by_too_long h) (by_document l) less = omega (arith, less)
   none_less w v less = omega (arith, less)
 
   one_status : (w v : Why) → status_why w ≡ status_why v

@@ -1,5 +1,5 @@
 -- What is written of an outcome of a text.
-use Rattle.std.proofs.Common.{◌≡◌, refl, sym, ap, subst, ◌<◌, ◌+◌, ◌++◌, ◌∷◌, [], ℕ, List, length, Vec, Global, arith}
+use Rattle.std.proofs.Common.{◌≡◌, refl, ap, ◌<◌, ◌++◌, ◌∷◌, [], ℕ, List, length, Vec, Global, arith}
 use Rattle.std.proofs.lemmas.List.{length-append}
 use Rattle.ix_model.specs.declared.grammar.Grammar.{Grammar}
 use Rattle.ix_model.specs.declared.state.State.{State}

@@ -1,12 +1,12 @@
 -- From what was loaded and found to the table of answers.
-use Rattle.std.proofs.Common.{◌≡◌, refl, sym, subst, ℕ, ◌≤◌, List, take, Option, None, Some, Result, Ok, Err, IfErr, IfSome, arith}
+use Rattle.std.proofs.Common.{◌≡◌, sym, subst, ℕ, ◌≤◌, List, take, Option, None, Some, Result, Ok, Err, IfErr, IfSome, arith}
 use Rattle.std.specs.Result.{IsErrAnd}
 use mathlib.Core.Logic.{inl, inr}
 use Rattle.ix_model.specs.declared.grammar.Grammar.{Grammar}
 use Rattle.ix_model.specs.Answers.Answer.{HoldsConforming, GrammarRefused, TextAnswered}
 use Rattle.ix_model.specs.Answers.Outcome.{Outcome}
 use Rattle.ix_edge.specs.Causes.{Rose}
-use Rattle.ix_edge.specs.Told.{Told, held}
+use Rattle.ix_edge.specs.Told.{Told}
 use Rattle.ix_engine.specs.declared.outcome.ParseFault.{ParseFault}
 use Rattle.ix_engine.specs.declared.outcome.ParseFault.TheVariants as fault
 use Rattle.ix_engine.specs.Answers.{fault_outcome}

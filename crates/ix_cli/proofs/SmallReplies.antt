@@ -114,6 +114,14 @@ module _ (o : Outcome) where
   no_words_reply files (inl h) = h.1
   no_words_reply files (inr h) = absurd (no_words_form h.0)
 
+-- ---- causes
+
+pub failure_caused : IsCaused parse_g_t (holding one_way (codes "ab")) 1
+failure_caused = reply_caused parse_g_t (holding one_way (codes "ab")) _ no_derivation
+
+pub no_text_caused : IsCaused parse_g_t (holding one_way (97 ∷ 195 ∷ [])) 5
+no_text_caused = reply_caused parse_g_t (holding one_way (97 ∷ 195 ∷ [])) _ no_text_here
+
 -- where the files lack the text there is no answer
 pub nothing_without_text : (o : Outcome) → ¬ (IsReply parse_g_t (without_text one_way) o)
 nothing_without_text o (inl h) = h.0 has_some_form

@@ -89,7 +89,7 @@ fn fault_message(alloc: Global, fault: &ParseFault) -> Result<Vec<u8>, AllocErro
     }
 }
 
-#[tactic(auto, using(crate::proofs::LineForms::attribute_line, crate::proofs::LineForms::top_line, crate::proofs::LineForms::name_line, crate::proofs::LineForms::twice_line, crate::proofs::LineForms::character_line))]
+#[tactic(auto, using(crate::proofs::LineForms::twice_line, crate::proofs::LineForms::character_line))]
 fn code_message(alloc: Global, code: &DynFault) -> Result<Vec<u8>, AllocError>
     ensures { IfOk result (λ line. line.items ≡ code_line code.now) }
 {

@@ -18,7 +18,6 @@ pub struct Output {
 }
 
 /// The document of the text under the grammar, or the failed document.
-#[tactic(auto, using(crate::proofs::Outputs::document_is, crate::proofs::Outputs::failed_is, crate::proofs::Outputs::is_document))]
 pub fn output_of(alloc: Global, grammar: &Grammar, text: &[u8]) -> Result<Output, ParseFault>
     requires conforming { Conforming grammar.now }
     requires small { size grammar.now ≤ grammar_limit }

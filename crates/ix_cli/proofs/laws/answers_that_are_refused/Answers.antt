@@ -1,4 +1,3 @@
-use Rattle.std.proofs.Common.{refl}
 use Rattle.ix_cli.proofs.SmallReplies.{has_some_form, no_words_form, no_grammar_here, no_text_here, the_failure}
 use Rattle.ix_cli.proofs.laws.answers_that_are_refused.Goals as goal
 

@@ -1,5 +1,5 @@
 use Rattle.std.proofs.Common.{refl, codes, arith}
-use mathlib.Core.Logic.{inl, inr}
+use mathlib.Core.Logic.{inr}
 use Rattle.ix_examples.specs.SmallAnswers.{one_way}
 use Rattle.ix_examples.specs.SmallGrammars.{only_a}
 use Rattle.ix_cli.proofs.SmallReplies.{has_form, holds_one_way, text_after_grammar}

@@ -1,4 +1,3 @@
-use Rattle.std.proofs.Common.{arith}
 use Rattle.ix_cli.proofs.Caused.{reply_caused}
 use Rattle.ix_cli.proofs.SmallReplies.{long_grammar, other_grammar, long_text, other_text, not_long_text}
 use Rattle.ix_cli.proofs.laws.lengths_with_causes.Goals as goal

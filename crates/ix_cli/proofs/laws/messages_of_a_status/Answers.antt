@@ -1,4 +1,4 @@
-use Rattle.std.proofs.Common.{◌≡◌, ◌≤◌, refl, ap, length, [], ℕ, List, arith}
+use Rattle.std.proofs.Common.{◌≡◌, ◌≤◌, refl, ap, length, arith}
 use mathlib.Core.Logic.{inl, inr}
 use Rattle.ix_engine.specs.declared.outcome.DynFault.TheVariants as code
 use Rattle.ix_engine.specs.declared.outcome.ParseFault.{ParseFault}
@@ -7,7 +7,7 @@ use Rattle.ix_engine.specs.declared.refusal.Refusal.{Refusal}
 use Rattle.ix_engine.specs.declared.refusal.Refusal.TheVariants as refusal
 use Rattle.ix_cli.specs.declared.answer.Answer.{Answer}
 use Rattle.ix_cli.specs.declared.answer.Answer.TheVariants as answer
-use Rattle.ix_cli.specs.Lines.{line_of, status_of, refusal_status, fault_status, write_line}
+use Rattle.ix_cli.specs.Lines.{line_of, status_of, refusal_status, fault_status}
 use Rattle.ix_cli.proofs.laws.messages_of_a_status.Goals as goal
 
 pub returns-clause-silent : goal.returns-clause-silent
