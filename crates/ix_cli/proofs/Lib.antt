@@ -1,13 +1,12 @@
-pub mod Alternatives
+pub mod Caused
+pub mod Forms
 pub mod LineForms
 pub mod Lists
 pub mod LoadedFiles
 pub mod OneReply
-pub mod PlainLines
-pub mod PlainTrees
+pub mod Outputs
 pub mod Refusing
 pub mod Replies
-pub mod Runs
 pub mod SmallReplies
 pub mod Statuses
-pub mod TermNumbers
+pub mod Writing

@@ -6,11 +6,11 @@ use Rattle.ix_edge.specs.Told.{Told, held, Loads}
 use Rattle.ix_model.specs.declared.grammar.Grammar.{Grammar}
 use Rattle.ix_engine.specs.declared.refusal.Refusal.{Refusal}
 use Rattle.ix_engine.specs.declared.refusal.Refusal.TheVariants as refusal
-use Rattle.ix_model.specs.Answers.Answer.{HoldsConforming, GrammarRefused}
-use Rattle.ix_model.specs.Answers.Outcome.{Outcome, grammar_too_long, grammar_not_utf8, no_grammar, too_deep, not_conforming}
+use Rattle.ix_model.specs.Answers.Answer.{HoldsConforming, GrammarRefused, TextAnswered}
+use Rattle.ix_model.specs.Answers.Outcome.{Outcome, grammar_too_long, grammar_not_utf8, no_grammar, too_deep, not_conforming, text_too_long, text_not_utf8}
 use Rattle.ix_engine.specs.Compiled.{outcome_of, IsRefusalOf}
 use Rattle.ix_cli.specs.Loaded.{Holds, IsGrammarFault}
-use Rattle.ix_cli.specs.Refusals.{of_refusal}
+use Rattle.ix_cli.specs.Means.{of_refusal}
 
 module _ (name : List ℕ) (most : ℕ) (v : Vec ℕ Global) where
   -- a load that gave bytes gave those of a name that is there
@@ -37,9 +37,6 @@ module _ (most : ℕ) (Q : List ℕ → Type 0) (short : (bytes : List ℕ) → 
   whole_is v bytes e q =
       let same : take (most + 1) bytes ≡ bytes = short_whole most bytes (subst (λ (l : List ℕ). length l ≤ most) e (short v q)) in
       (sym (e ∙ same), subst Q (e ∙ same) q)
-
-  pub whole_is_not : (v bytes : List ℕ) → v ≡ take (most + 1) bytes → ¬ (Q v) → ¬ (Q bytes)
-  whole_is_not v bytes e never q = never (subst Q (sym (e ∙ take_all (most + 1) bytes (omega (arith, short bytes q)))) q)
 
 -- a conforming grammar that was loaded is that of the whole file
 pub compiled_whole : (g : Grammar) (v bytes : List ℕ) → v ≡ take 1048577 bytes → HoldsConforming v g → HoldsConforming bytes g
@@ -80,3 +77,9 @@ refusal_caused told old new name (refusal.Class called) h = ((λ e. cc e), h)
 refusal_caused told old new name (refusal.Undefined called) h = ((λ e. cc e), h)
 refusal_caused told old new name (refusal.Duplicate called) h = ((λ e. cc e), h)
 refusal_caused told old new name refusal.Memory h = tt
+
+-- what comes of a text that was loaded comes of the whole file
+pub text_whole : (g : Grammar) (o : Outcome) (v bytes : List ℕ) → v ≡ take 16777217 bytes → TextAnswered g v o → TextAnswered g bytes o
+text_whole g text_too_long v bytes e h = omega (arith, h, ap length e, length-take 16777217 bytes)
+text_whole g (text_not_utf8 valid) v bytes e h = (whole_is 16777216 (λ b. TextAnswered g b (text_not_utf8 valid)) (λ b k. k.0) v bytes e h).1
+text_whole g o v bytes e h = (whole_is 16777216 (λ b. TextAnswered g b o) (λ b k. k.0.0) v bytes e h).1

@@ -1,41 +1,51 @@
 -- The worked examples of the table of answers.
-use Rattle.std.proofs.Common.{◌≡◌, refl, sym, ap, ◌∙◌, ℕ, List, [], ◌∷◌, zero, suc, Some, take, subst, codes, arith, rules}
-use Rattle.std.specs.Prelude.{◌⊎◌}
+use Rattle.std.proofs.Common.{◌≡◌, ◌<◌, refl, sym, ap, ◌∙◌, ℕ, List, [], ◌∷◌, zero, suc, length, Some, take, subst, codes, arith}
+use Rattle.std.specs.Prelude.{◌⊎◌, IsUtf8}
 use mathlib.Core.Logic.{inl, inr}
 use lib.Utf8.{encode}
 use Rattle.unicode.specs.GeneralCategory.{general_category}
 use Rattle.unicode.specs.Rows.{value_in}
 use Rattle.ucd_category.specs.GeneralCategoryRows.{general_category_rows}
-use Rattle.std.specs.Str.{chars}
-use Rattle.ix_model.specs.Spelling.Characters.{is_blank, is_name_start, is_name_part}
-use Rattle.ix_examples.specs.SmallGrammars as grammars
-use Rattle.ix_examples.specs.SmallTrees.{node_of, a_tree}
-use Rattle.ix_model.specs.Derivations.Trees.{text}
-use Rattle.ix_model.specs.declared.state.State.TheVariants.{Single}
-use Rattle.ix_model.specs.Documents.Gives.{Givens, nothing, gives_root}
-use Rattle.ix_model.specs.Documents.Xml.{xml}
-use Rattle.ix_examples.proofs.SmallTexts.{a_derives, one_a, earlier_derives, later_derives, first}
+use Rattle.std.specs.Str.{chars, is_utf8}
+use Rattle.std.specs.Str.Lossy.{utf8_valid_len}
 use Rattle.ix_model.specs.declared.grammar.Grammar.{Grammar}
-use Rattle.ix_model.specs.declared.grammar.Chars.TheVariants.{Quoted}
-use Rattle.ix_model.specs.Answers.Answer.{HoldsConforming}
-use Rattle.ix_model.specs.Answers.Outcome.{document, no_grammar}
+use Rattle.ix_model.specs.declared.state.State.TheVariants.{Single, Ambiguous}
+use Rattle.ix_model.specs.Answers.Answer.{HoldsConforming, GrammarRefused, TextAnswered}
+use Rattle.ix_model.specs.Answers.Limits.{text_limit}
+use Rattle.ix_model.specs.Answers.Outcome.{Outcome, document, failed, no_form, no_grammar, grammar_too_long, grammar_not_utf8, text_too_long, text_not_utf8, status_of, output_of}
+use Rattle.ix_model.specs.Spelling.Characters.{is_blank, is_name_start, is_name_part}
 use Rattle.ix_examples.specs.SmallAnswers.{parse_g_t, one_way, both_ways}
-use Rattle.ix_spelling_laws.proofs.ByReading.{reads, reads_none}
+use Rattle.ix_examples.specs.SmallGivens.{text_of, document as element_with}
+use Rattle.ix_examples.specs.SmallGrammars as grammars
 use Rattle.ix_examples.proofs.SmallConforming.{only_a_conforms, two_ways_conforms, shallow_a, shallow_both}
+use Rattle.ix_spelling_laws.proofs.ByReading.{reads, reads_none}
+use Rattle.ix_worked_examples.proofs.SmallAnswers.{parses_g_t, not_utf8, a_parsed, a_parsed_twice, ab_failed}
 use Rattle.ix_cli.specs.Answered.{IsAnswered, IsCutOff}
-use Rattle.ix_cli.specs.Examples.{holding, raised, no_count}
-use Rattle.ix_cli.specs.Form.{HasForm}
-use Rattle.ix_cli.specs.Reply.{Reply, reply, not_built, status_of, output_of, IsTextReply, IsReply, HasDocument}
+use Rattle.ix_edge.specs.Told.{Told, held}
+use Rattle.ix_answer_laws.proofs.OneAnswer.{refused_or_held}
+use Rattle.ix_cli.specs.Causes.{OfText, IsCaused}
+use Rattle.ix_cli.specs.Examples.{holding, without_text, raised, no_count}
+use Rattle.ix_cli.specs.Form.{HasForm, HasSomeForm}
 use Rattle.ix_cli.specs.Says.{Says}
-use Rattle.ix_cli.specs.Unread.{IsUnread, HoldsPlain}
-use Rattle.ix_cli.specs.Once.{HasPlainRule}
-use Rattle.ix_cli.proofs.PlainTrees.{gives_root-plain}
+use Rattle.ix_cli.specs.Table.{IsReply}
+use Rattle.ix_cli.specs.Unread.{IsUnread, HoldsSome}
+use Rattle.ix_cli.proofs.Caused.{reply_caused}
+use Rattle.ix_cli.proofs.Forms.{names, one_form}
+use Rattle.ix_cli.proofs.Lists.{some_is}
 use Rattle.ix_cli.proofs.OneReply.{one_reply}
 
 pub has_form : HasForm parse_g_t (codes "g") (codes "t")
 has_form = (refl, (λ e. omega (arith, e)), (λ e. omega (arith, e)))
 
-holds_one_way : HoldsConforming one_way grammars.only_a
+pub has_some_form : HasSomeForm parse_g_t
+has_some_form = (codes "g", codes "t", has_form)
+
+pub no_words_form : ¬ (HasSomeForm [])
+no_words_form h = absurd (cc h.2.0)
+
+-- ---- grammars
+
+pub holds_one_way : HoldsConforming one_way grammars.only_a
 unfolding is_blank is_name_start is_name_part general_category value_in general_category_rows chars encode
 holds_one_way = (((omega arith, (one_way, (refl, refl))), reads _ _ refl, shallow_a), only_a_conforms)
 
@@ -43,80 +53,99 @@ holds_both_ways : HoldsConforming both_ways grammars.two_ways
 unfolding is_blank is_name_start is_name_part general_category value_in general_category_rows chars encode
 holds_both_ways = (((omega arith, (both_ways, (refl, refl))), reads _ _ refl, shallow_both), two_ways_conforms)
 
-pub no_grammar_here : IsReply parse_g_t (holding [] (codes "a")) (reply no_grammar)
+pub no_grammar_here : (text : List ℕ) → IsReply parse_g_t (holding [] text) no_grammar
 unfolding is_blank is_name_start is_name_part general_category value_in general_category_rows chars encode
-no_grammar_here = inr (codes "g", codes "t", has_form, ([], refl, inl (no_grammar, ((omega arith, ([], (refl, refl))), reads_none _ refl), refl)))
+no_grammar_here text = inr (has_some_form, (codes "g", codes "t", [], 2, parses_g_t, refl, inl ((omega arith, ([], (refl, refl))), reads_none _ refl)))
 
-pub only_a_is_plain : HasPlainRule grammars.only_a (grammars.rule (codes "S") (grammars.alternative (grammars.quoted (codes "a") ∷ []) ∷ []))
-only_a_is_plain = (refl, refl, ((inl (Quoted (codes "a"), refl), tt), tt))
+pub no_grammar_alone : IsReply parse_g_t (without_text []) no_grammar
+unfolding is_blank is_name_start is_name_part general_category value_in general_category_rows chars encode
+no_grammar_alone = inr (has_some_form, (codes "g", codes "t", [], 2, parses_g_t, refl, inl ((omega arith, ([], (refl, refl))), reads_none _ refl)))
 
-one_document : codes "<S>a</S>\n" ≡ xml (gives_root (codes "a") grammars.only_a a_tree) Single
-unfolding encode
-one_document = sym (ap (λ given. xml given Single) (gives_root-plain grammars.only_a (codes "a") _ only_a_is_plain a_tree a_derives))
+pub long_grammar : (bytes : List ℕ) → length bytes ≡ 1048577 → IsReply parse_g_t (holding bytes []) grammar_too_long
+long_grammar bytes e = inr (has_some_form, (codes "g", codes "t", bytes, 2, parses_g_t, refl, inl (omega (arith, e))))
 
-both_are_plain : HasPlainRule grammars.two_ways (grammars.rule (codes "S") (grammars.alternative (grammars.quoted (codes "a") ∷ []) ∷ grammars.alternative (grammars.quoted (codes "a") ∷ []) ∷ []))
-both_are_plain = (refl, refl, ((inl (Quoted (codes "a"), refl), tt), ((inl (Quoted (codes "a"), refl), tt), tt)))
+pub other_grammar : (bytes : List ℕ) → length bytes ≡ 1048576 → ¬ (IsUtf8 bytes) → IsReply parse_g_t (holding bytes []) (grammar_not_utf8 (utf8_valid_len bytes))
+other_grammar bytes e n = inr (has_some_form, (codes "g", codes "t", bytes, 2, parses_g_t, refl, inl (omega (arith, e), n, refl)))
+
+-- ---- texts
 
 -- the files hold a text for `S: "a".`
-under_one_way : (s : List ℕ) (r : Reply) → IsTextReply grammars.only_a s r → IsReply parse_g_t (holding one_way s) r
-under_one_way s r h =
-    inr (codes "g", codes "t", has_form, (one_way, refl, inr (grammars.only_a, holds_one_way, inr ((_, only_a_is_plain, (refl, tt)), (s, refl, h)))))
+under_one_way : (s : List ℕ) (o : Outcome) → TextAnswered grammars.only_a s o → IsReply parse_g_t (holding one_way s) o
+under_one_way s o h = inr (has_some_form, (codes "g", codes "t", one_way, 2, parses_g_t, refl, inr (grammars.only_a, holds_one_way, s, refl, h)))
 
-pub answered : HasDocument parse_g_t (holding one_way (codes "a")) (codes "<S>a</S>\n")
-answered = (
-  gives_root (codes "a") grammars.only_a a_tree,
-  under_one_way (codes "a") _ (search rules, (a_tree, (a_derives, λ e h. (one_a (codes "a") e h).0), refl)),
-  one_document,
-)
+abbrev pub a_document : Outcome
+a_document = document (element_with (text_of (codes "a"))) Single
 
-pub no_derivation : IsReply parse_g_t (holding one_way (codes "b")) not_built
-no_derivation = under_one_way (codes "b") not_built (λ h. absurd (omega (arith, ap first (one_a (codes "b") h.1.0 h.1.1.0).1.2)))
+pub answered : IsReply parse_g_t (holding one_way (codes "a")) a_document
+unfolding chars encode
+answered = under_one_way (codes "a") _ ((omega arith, (codes "a", (refl, refl))), a_parsed)
 
-pub two_derivations : IsReply parse_g_t (holding both_ways (codes "a")) not_built
-two_derivations = inr (
-  codes "g",
-  codes "t",
-  has_form,
-  (
-    both_ways,
-    refl,
-    inr (
-      grammars.two_ways,
-      holds_both_ways,
-      inr (
-        (_, both_are_plain, (refl, tt)),
-        (
-          codes "a",
-          refl,
-          λ h.
-              let same : node_of 0 0 (text 0 1) ≡ node_of 0 1 (text 0 1) = h.1.1.1 _ earlier_derives ∙ sym (h.1.1.1 _ later_derives) in
-              absurd (cc same),
-        ),
-      ),
-    ),
-  ),
-)
+pub answered_twice : IsReply parse_g_t (holding both_ways (codes "a")) (document (element_with (text_of (codes "a"))) Ambiguous)
+unfolding chars encode
+answered_twice = inr (has_some_form, (codes "g", codes "t", both_ways, 2, parses_g_t, refl, inr (grammars.two_ways, holds_both_ways, codes "a", refl, ((omega arith, (codes "a", (refl, refl))), a_parsed_twice))))
 
--- the document is the only answer
-the_answer : (r : Reply) → IsReply parse_g_t (holding one_way (codes "a")) r → reply (document (gives_root (codes "a") grammars.only_a a_tree) Single) ≡ r
-unfolding answered
-the_answer r h = one_reply parse_g_t (holding one_way (codes "a")) _ r answered.1 h
+pub no_derivation : IsReply parse_g_t (holding one_way (codes "ab")) (failed 1 1 2)
+unfolding chars encode
+no_derivation = under_one_way (codes "ab") _ ((omega arith, (codes "ab", (refl, refl))), ab_failed)
 
-given_of : Reply → Givens
-given_of (reply (document gs state)) = gs
-given_of _ = nothing
+pub no_text_here : IsReply parse_g_t (holding one_way (97 ∷ 195 ∷ [])) (text_not_utf8 1)
+unfolding utf8_valid_len is_utf8 chars encode
+no_text_here = under_one_way (97 ∷ 195 ∷ []) _ (omega arith, not_utf8 _ refl, refl)
 
-the_bytes : (bytes : List ℕ) → HasDocument parse_g_t (holding one_way (codes "a")) bytes → bytes ≡ codes "<S>a</S>\n"
-unfolding given_of
-the_bytes bytes h =
-    let e : gives_root (codes "a") grammars.only_a a_tree ≡ h.0 = ap given_of (the_answer _ h.1) in
-    h.2 ∙ ap (λ gs. xml gs Single) (sym e) ∙ sym one_document
+pub long_text : (bytes : List ℕ) → length bytes ≡ 16777217 → IsReply parse_g_t (holding one_way bytes) text_too_long
+long_text bytes e = under_one_way bytes _ (omega (arith, e))
 
-pub not_refused : ¬ (IsReply parse_g_t (holding one_way (codes "a")) not_built)
-not_refused h = absurd (cc (the_answer not_built h))
+pub other_text : (bytes : List ℕ) → length bytes ≡ 16777216 → ¬ (IsUtf8 bytes) → IsReply parse_g_t (holding one_way bytes) (text_not_utf8 (utf8_valid_len bytes))
+other_text bytes e n = under_one_way bytes _ (omega (arith, e), n, refl)
 
-pub not_cut_off : ¬ (HasDocument parse_g_t (holding one_way (codes "a")) (codes "<S>a</S>"))
-not_cut_off h = absurd (cc (the_bytes _ h))
+-- ---- other answers
+
+module _ (o : Outcome) where
+  pub the_document : IsReply parse_g_t (holding one_way (codes "a")) o → a_document ≡ o
+  the_document h = one_reply parse_g_t (holding one_way (codes "a")) _ o answered h
+
+  pub the_failure : IsReply parse_g_t (holding one_way (codes "ab")) o → failed 1 1 2 ≡ o
+  the_failure h = one_reply parse_g_t (holding one_way (codes "ab")) _ o no_derivation h
+
+  pub the_refusal : (text : List ℕ) → IsReply parse_g_t (holding [] text) o → no_grammar ≡ o
+  the_refusal text h = one_reply parse_g_t (holding [] text) _ o (no_grammar_here text) h
+
+  pub no_words_reply : (files : Told) → IsReply [] files o → o ≡ no_form
+  no_words_reply files (inl h) = h.1
+  no_words_reply files (inr h) = absurd (no_words_form h.0)
+
+-- ---- causes
+
+pub failure_caused : IsCaused parse_g_t (holding one_way (codes "ab")) 1
+failure_caused = reply_caused parse_g_t (holding one_way (codes "ab")) _ no_derivation
+
+pub no_text_caused : IsCaused parse_g_t (holding one_way (97 ∷ 195 ∷ [])) 5
+no_text_caused = reply_caused parse_g_t (holding one_way (97 ∷ 195 ∷ [])) _ no_text_here
+
+-- where the files lack the text there is no answer
+pub nothing_without_text : (o : Outcome) → ¬ (IsReply parse_g_t (without_text one_way) o)
+nothing_without_text o (inl h) = h.0 has_some_form
+nothing_without_text o (inr ((grammar', text', form'), (grammar, text, bytes, workers, command, e, rest))) = by_rest rest
+  where
+    named : (grammar ≡ codes "g") × (text ≡ codes "t")
+    named = one_form parse_g_t (codes "g") (codes "t") grammar text has_form (names parse_g_t grammar' text' grammar text workers form' command)
+
+    is_one_way : one_way ≡ bytes
+    is_one_way = some_is (subst (λ n. held (without_text one_way) n ≡ Some bytes) named.0 e)
+
+    by_rest : GrammarRefused bytes o ⊎ ((g : Grammar) × HoldsConforming bytes g × (s : List ℕ) × (held (without_text one_way) text ≡ Some s) × TextAnswered g s o) → ⊥
+    by_rest (inl r) = refused_or_held one_way o grammars.only_a (subst (λ b. GrammarRefused b o) (sym is_one_way) r) holds_one_way
+    by_rest (inr (g, h, s, f, a)) = absurd (cc (subst (λ n. held (without_text one_way) n ≡ Some s) named.1 f))
+
+-- a text of the greatest length is not too long
+pub not_long_text : (bytes : List ℕ) → length bytes ≡ 16777216 → ¬ (IsCaused parse_g_t (holding one_way bytes) 6)
+not_long_text bytes e h = by_cause (h.too_long.0 refl)
+  where
+    by_cause : OfText parse_g_t (holding one_way bytes) (λ g s. text_limit < length s) → ⊥
+    by_cause (grammar, text, more, s, g, form, q, c, f, less) =
+        let n = one_form parse_g_t (codes "g") (codes "t") grammar text has_form form in
+        let same : bytes ≡ s = some_is (subst (λ x. held (holding one_way bytes) x ≡ Some s) n.1 f) in
+        omega (arith, e, less, ap (λ (xs : List ℕ). length xs) same)
 
 -- ---- what was written
 
@@ -126,20 +155,27 @@ Said = Says (Some []) (Some []) 0 0
 abbrev Replied : List ℕ → ℕ → Type 0
 Replied bytes status = IsAnswered parse_g_t (Some (holding one_way (codes "a"))) (Some []) (Some bytes) status Said
 
+one_document : output_of a_document ≡ codes "<S>a</S>\n"
+unfolding encode
+one_document = refl
+
 pub written_whole : Replied (codes "<S>a</S>\n") 0
-written_whole = (reply (document answered.0 Single), answered.1, refl, answered.2, λ n. refl)
+written_whole = (a_document, answered, refl, sym one_document, λ n. refl)
+
+the_output : (o : Outcome) → IsReply parse_g_t (holding one_way (codes "a")) o → output_of o ≡ codes "<S>a</S>\n"
+the_output o h = sym (ap output_of (the_document o h)) ∙ one_document
 
 pub not_shorter : ¬ (Replied (codes "<S>a</S>") 0)
-not_shorter h = absurd (cc (h.3 ∙ sym (ap output_of (the_answer h.0 h.1)) ∙ sym one_document))
+not_shorter (o, r, e, a, s) = let f : 8 ≡ 9 = ap length (a ∙ the_output o r) in omega (arith, f)
 
-pub not_nothing : ¬ (Replied [] 10)
-not_nothing h = omega (arith, h.2 ∙ sym (ap status_of (the_answer h.0 h.1)))
+pub not_nothing : ¬ (Replied [] 3)
+not_nothing (o, r, e, a, s) = omega (arith, e ∙ sym (ap status_of (the_document o r)))
 
 abbrev CutOff : List ℕ → Type 0
 CutOff bytes = IsCutOff parse_g_t (Some (holding one_way (codes "a"))) (Some []) (Some bytes)
 
 pub written_front : CutOff (codes "<S>a")
-written_front = (codes "<S>a</S>\n", answered, omega arith, 4, refl)
+written_front = (a_document, answered, omega (arith, ap length one_document), 4, sym (ap (take 4) one_document))
 
 -- the front of a document begins as the document does
 first_or : ℕ → List ℕ → ℕ
@@ -153,8 +189,12 @@ begins_same (suc n) x xs = refl
 
 pub not_another_front : ¬ (CutOff (codes "S"))
 unfolding first_or
-not_another_front h =
-    omega (arith, ap (first_or 60) (h.4 ∙ ap (take h.3) (the_bytes h.0 h.1)) ∙ begins_same h.3 60 (codes "S>a</S>\n"))
+not_another_front (o, r, some, n, a) =
+    omega (arith, ap (first_or 60) (a ∙ ap (take n) (the_output o r)) ∙ begins_same n 60 (codes "S>a</S>\n"))
+
+-- a grammar that is refused has no output
+pub no_output : ¬ (IsCutOff parse_g_t (Some (holding [] [])) (Some []) (Some []))
+no_output (o, r, some, n, a) = omega (arith, some, ap (λ x. length (output_of x)) (the_refusal o [] r))
 
 -- ---- what could not be read
 
@@ -173,8 +213,8 @@ text_after_grammar h = by_name h.4
     grammar_is : h.0 ≡ codes "g"
     grammar_is = let e : parse_g_t ≡ codes "parse" ∷ h.0 ∷ h.1 ∷ [] = h.2.0 in cc e
 
-    by_name : (codes "t" ≡ h.0) ⊎ ((codes "t" ≡ h.1) × HoldsPlain (Some (holding [] [])) h.0) → ⊥
+    by_name : (codes "t" ≡ h.0) ⊎ ((codes "t" ≡ h.1) × HoldsSome (Some (holding [] [])) h.0) → ⊥
     by_name (inl e) = let f : codes "t" ≡ codes "g" = e ∙ grammar_is in omega (arith, ap (first_or 0) f)
     by_name (inr e) =
-        let x : HoldsPlain (Some (holding [] [])) (codes "g") = subst (HoldsPlain (Some (holding [] []))) grammar_is e.1 in
+        let x : HoldsSome (Some (holding [] [])) (codes "g") = subst (HoldsSome (Some (holding [] []))) grammar_is e.1 in
         none_held x.0 (cc x.1) x.2.0 x.2.1

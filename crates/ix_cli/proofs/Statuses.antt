@@ -1,25 +1,37 @@
--- What status 7 says of the answer.
-use Rattle.std.proofs.Common.{◌≡◌, refl, ℕ, List, String, Global, string_bytes, arith}
+-- What a status says of the answer.
+use Rattle.std.proofs.Common.{◌≡◌, ◌≢◌, refl, ℕ, List, [], String, Global, string_bytes, arith}
+use Rattle.ix_model.specs.Answers.Outcome as outcome
+use Rattle.ix_engine.specs.declared.outcome.ParseFault.{ParseFault}
+use Rattle.ix_engine.specs.declared.outcome.ParseFault.TheVariants as fault
+use Rattle.ix_engine.specs.declared.refusal.Refusal.{Refusal}
 use Rattle.ix_engine.specs.declared.refusal.Refusal.TheVariants as refusal
+use Rattle.ix_engine.specs.Answers.{fault_outcome}
+use Rattle.ix_engine.specs.Compiled.{outcome_of}
 use Rattle.ix_cli.specs.declared.answer.Answer.{Answer}
 use Rattle.ix_cli.specs.declared.answer.Answer.TheVariants as answer
-use Rattle.ix_cli.specs.Lines.{line_of, status_of, read_line}
+use Rattle.ix_cli.specs.Lines.{line_of, status_of, read_line, refusal_line, refusal_status, fault_line, fault_status}
+
+-- a refusal and a fault are told as their outcome is, which has no output
+pub refusal_told : (r : Refusal) → r ≢ refusal.Memory → (refusal_status r ≡ outcome.status_of (outcome_of r)) × (refusal_line r ≡ outcome.message_of (outcome_of r)) × (outcome.output_of (outcome_of r) ≡ [])
+refusal_told refusal.Memory n = absurd (n refl)
+refusal_told r n = (refl, refl, refl)
+
+pub fault_told : (f : ParseFault) → f ≢ fault.Memory → (fault_status f ≡ outcome.status_of (fault_outcome f)) × (fault_line f ≡ outcome.message_of (fault_outcome f)) × (outcome.output_of (fault_outcome f) ≡ [])
+fault_told fault.Memory n = absurd (n refl)
+fault_told f n = (refl, refl, refl)
+
+-- neither has the status of a file that could not be read
+refusal_not_read : (r : Refusal) → refusal_status r ≢ 7
+refusal_not_read refusal.Memory e = omega (arith, e)
+refusal_not_read r e = omega (arith, e)
+
+fault_not_read : (f : ParseFault) → fault_status f ≢ 7
+fault_not_read fault.Memory e = omega (arith, e)
+fault_not_read f e = omega (arith, e)
 
 -- only the answer that names a file has status 7
 pub named_file : (a : Answer) (P : List ℕ → Type 0) → status_of a ≡ 7 → P (line_of a) → (name : String Global) × (a ≡ answer.Read name) × P (read_line (string_bytes name))
 named_file (answer.Read name) P e p = (name, refl, p)
-named_file (answer.Grammar refusal.FileTooLong) P e p = absurd (omega (arith, e))
-named_file (answer.Grammar (refusal.NotUtf8 valid)) P e p = absurd (omega (arith, e))
-named_file (answer.Grammar refusal.NotIxml) P e p = absurd (omega (arith, e))
-named_file (answer.Grammar refusal.TooDeep) P e p = absurd (omega (arith, e))
-named_file (answer.Grammar (refusal.Version text)) P e p = absurd (omega (arith, e))
-named_file (answer.Grammar (refusal.CodePoint digits)) P e p = absurd (omega (arith, e))
-named_file (answer.Grammar (refusal.Range low high)) P e p = absurd (omega (arith, e))
-named_file (answer.Grammar (refusal.Class name)) P e p = absurd (omega (arith, e))
-named_file (answer.Grammar (refusal.Undefined name)) P e p = absurd (omega (arith, e))
-named_file (answer.Grammar (refusal.Duplicate name)) P e p = absurd (omega (arith, e))
-named_file (answer.Grammar refusal.Memory) P e p = absurd (omega (arith, e))
-named_file answer.Words P e p = absurd (omega (arith, e))
-named_file answer.NotBuilt P e p = absurd (omega (arith, e))
-named_file answer.Write P e p = absurd (omega (arith, e))
-named_file answer.Memory P e p = absurd (omega (arith, e))
+named_file (answer.Grammar r) P e p = absurd (refusal_not_read r e)
+named_file (answer.Text f) P e p = absurd (fault_not_read f e)
+named_file a P e p = absurd (omega (arith, e))

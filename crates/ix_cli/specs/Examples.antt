@@ -7,6 +7,10 @@ use Rattle.ix_edge.specs.Told.{Told}
 abbrev pub holding : List ℕ → List ℕ → Told
 holding grammar text = record { entries = (codes "g", grammar) ∷ (codes "t", text) ∷ []; others_empty = false }
 
+-- files that hold a grammar under `g`, and no other name
+abbrev pub without_text : List ℕ → Told
+without_text grammar = record { entries = (codes "g", grammar) ∷ []; others_empty = false }
+
 -- no load has failed
 abbrev pub no_count : List ℕ → ℕ
 no_count name = 0

@@ -1,13 +1,11 @@
 -- What was loaded from a file, and why it was not.
+-- Source: this project's own.
 use Rattle.std.specs.Prelude.{◌≡◌, ◌≢◌, ℕ, List, Option, Some, IfSome, string_bytes}
-use Rattle.ix_model.specs.declared.grammar.Grammar.{Grammar}
 use Rattle.ix_edge.specs.Causes.{Rose}
 use Rattle.ix_edge.specs.Told.{Told, held}
 use Rattle.ix_engine.specs.declared.refusal.Refusal.TheVariants as refusal
-use Rattle.ix_model.specs.Answers.Answer.{HoldsConforming, GrammarRefused}
+use Rattle.ix_model.specs.Answers.Answer.{GrammarRefused}
 use Rattle.ix_engine.specs.Compiled.{outcome_of}
-use Rattle.ix_cli.specs.PlainGrammar.{IsPlainGrammar}
-use Rattle.ix_cli.specs.PlainText.{IsPlainText}
 use Rattle.ix_cli.specs.declared.answer.Answer.{Answer}
 use Rattle.ix_cli.specs.declared.answer.Answer.TheVariants as answer
 
@@ -21,17 +19,9 @@ IsLoadFault old new name answer.Memory = Unit {0}
 IsLoadFault old new name (answer.Read file) = (string_bytes file ≡ name) × Rose (old name) (new name)
 IsLoadFault old new name _ = ⊥
 
--- The same; or the name holds bytes that are refused as a grammar, or a conforming grammar that is not plain.
+-- The same; or the name holds bytes that are refused as a grammar.
 abbrev pub IsGrammarFault : Option Told → (List ℕ → ℕ) → (List ℕ → ℕ) → List ℕ → Answer → Type 0
 IsGrammarFault told old new name answer.Memory = Unit {0}
 IsGrammarFault told old new name (answer.Read file) = (string_bytes file ≡ name) × Rose (old name) (new name)
 IsGrammarFault told old new name (answer.Grammar r) = (r ≢ refusal.Memory) × Holds told name (λ bytes. GrammarRefused bytes (outcome_of r))
-IsGrammarFault told old new name answer.NotBuilt = Holds told name (λ bytes. (g : Grammar) × HoldsConforming bytes g × ¬ (IsPlainGrammar g))
 IsGrammarFault told old new name _ = ⊥
-
--- The same; or the name holds bytes that are no plain text.
-abbrev pub IsTextFault : Option Told → (List ℕ → ℕ) → (List ℕ → ℕ) → List ℕ → Answer → Type 0
-IsTextFault told old new name answer.Memory = Unit {0}
-IsTextFault told old new name (answer.Read file) = (string_bytes file ≡ name) × Rose (old name) (new name)
-IsTextFault told old new name answer.NotBuilt = Holds told name (λ bytes. ¬ (IsPlainText bytes))
-IsTextFault told old new name _ = ⊥

@@ -1,4 +1,5 @@
 -- Which file could not be read: one that the words name, and the text only once the grammar was there.
+-- Source: this project's own.
 use Rattle.std.specs.Prelude.{◌≡◌, ◌⊎◌, ℕ, List, Option}
 use Rattle.ix_model.specs.declared.grammar.Grammar.{Grammar}
 use Rattle.ix_edge.specs.Causes.{Rose}
@@ -6,14 +7,13 @@ use Rattle.ix_edge.specs.Told.{Told}
 use Rattle.ix_model.specs.Answers.Answer.{HoldsConforming}
 use Rattle.ix_cli.specs.Form.{HasForm}
 use Rattle.ix_cli.specs.Loaded.{Holds}
-use Rattle.ix_cli.specs.PlainGrammar.{IsPlainGrammar}
 
--- where the files tell it, the name holds a grammar that is answered
-abbrev pub HoldsPlain : Option Told → List ℕ → Type 0
-HoldsPlain told grammar = Holds told grammar (λ bytes. (g : Grammar) × HoldsConforming bytes g × IsPlainGrammar g)
+-- where the files tell it, the name holds a conforming grammar
+abbrev pub HoldsSome : Option Told → List ℕ → Type 0
+HoldsSome told grammar = Holds told grammar (λ bytes. (g : Grammar) × HoldsConforming bytes g)
 
 -- the count of this file's name rose, and the file was the next to be read
 abbrev pub IsUnread : List (List ℕ) → Option Told → (List ℕ → ℕ) → (List ℕ → ℕ) → List ℕ → Type 0
 IsUnread words told old new name = (grammar : List ℕ) × (text : List ℕ) × HasForm words grammar text
     × Rose (old name) (new name)
-    × ((name ≡ grammar) ⊎ ((name ≡ text) × HoldsPlain told grammar))
+    × ((name ≡ grammar) ⊎ ((name ≡ text) × HoldsSome told grammar))

@@ -1,7 +1,7 @@
 ghost use Rattle.std.specs.Prelude.{◌≡◌};
-ghost use Rattle.ix_cli.specs.Lines.{refusal_status as status_of_refusal, status_of};
+ghost use Rattle.ix_cli.specs.Lines.{fault_status as status_of_fault, refusal_status as status_of_refusal, status_of};
 
-use ix_engine::Refusal;
+use ix_engine::{ParseFault, Refusal};
 use std::alloc::AllocError;
 
 /// What is answered in place of a document.
@@ -11,8 +11,8 @@ pub enum Answer {
     Words,
     /// The bytes are no grammar that conforms.
     Grammar(Refusal),
-    /// The grammar or the text is of a form that this program does not answer.
-    NotBuilt,
+    /// The text can't be looked at, or what its first derivation gives is no document.
+    Text(ParseFault),
     /// The file of this name could not be read.
     Read(String),
     /// The document could not be written.
@@ -29,7 +29,7 @@ impl Answer {
         match self {
             Answer::Words => 2,
             Answer::Grammar(refusal) => refusal_status(refusal),
-            Answer::NotBuilt => 10,
+            Answer::Text(fault) => fault_status(fault),
             Answer::Read(_) => 7,
             Answer::Write => 8,
             Answer::Memory => 9,
@@ -50,7 +50,7 @@ impl From<AllocError> for Answer {
 
 impl From<Refusal> for Answer {
     ghost use Rattle.std.specs.Prelude.{◌≡◌};
-    ghost use Rattle.ix_cli.specs.Refusals.{of_refusal};
+    ghost use Rattle.ix_cli.specs.Means.{of_refusal};
 
     ghost from_gives = { λ refusal answer. answer ≡ of_refusal refusal };
 
@@ -62,6 +62,20 @@ impl From<Refusal> for Answer {
     }
 }
 
+impl From<ParseFault> for Answer {
+    ghost use Rattle.std.specs.Prelude.{◌≡◌};
+    ghost use Rattle.ix_cli.specs.Means.{of_fault};
+
+    ghost from_gives = { λ fault answer. answer ≡ of_fault fault };
+
+    fn from(fault: ParseFault) -> Answer {
+        match fault {
+            ParseFault::Memory => Answer::Memory,
+            other => Answer::Text(other),
+        }
+    }
+}
+
 fn refusal_status(refusal: &Refusal) -> u8
     ensures { result ≡ status_of_refusal refusal.now }
 {
@@ -69,5 +83,16 @@ fn refusal_status(refusal: &Refusal) -> u8
         Refusal::NotUtf8 { valid: _ } => 5,
         Refusal::Memory => 9,
         _ => 3,
+    }
+}
+
+fn fault_status(fault: &ParseFault) -> u8
+    ensures { result ≡ status_of_fault fault.now }
+{
+    match fault {
+        ParseFault::TooLong => 6,
+        ParseFault::NotUtf8 { valid: _ } => 5,
+        ParseFault::Dynamic(_) => 4,
+        ParseFault::Memory => 9,
     }
 }

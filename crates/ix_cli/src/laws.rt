@@ -1,30 +1,36 @@
 //! Laws of the definitions that the command's contract speaks of. Each function's contract is the law; the bodies are
 //! empty.
-ghost use Rattle.std.specs.Prelude.{◌≡◌, true, [], ◌∷◌, None, Some, codes};
-ghost use Rattle.ix_model.specs.declared.grammar.Chars.TheVariants.{Code};
-ghost use Rattle.ix_model.specs.declared.grammar.Factor.{Lit, Set};
-ghost use Rattle.ix_model.specs.declared.grammar.TMark.TheVariants.{Deleted};
-ghost use Rattle.ix_model.specs.declared.grammar.Term.{One};
-ghost use Rattle.ix_cli.specs.Answered.{IsAnswered, IsCutOff, IsMessage};
-ghost use Rattle.ix_cli.specs.Examples.{holding, raised, no_count};
+ghost use Rattle.std.specs.Prelude.{◌≡◌, ◌++◌, ℕ, List, [], ◌∷◌, Some, Vec, IsUtf8, codes, length};
+ghost use Rattle.std.specs.declared.alloc.Global.{Global};
+ghost use Rattle.ix_model.specs.declared.state.State.TheVariants.{Single, Ambiguous};
+ghost use Rattle.ix_model.specs.Answers.Outcome.{Outcome, no_form, no_grammar, text_too_long, text_not_utf8, failed, refused, document, message_of};
+ghost use Rattle.ix_model.specs.Documents.Dyn.{attribute_xmlns};
+ghost use Rattle.ix_engine.specs.declared.outcome.ParseFault.TheVariants as fault;
+ghost use Rattle.ix_engine.specs.declared.refusal.Refusal.TheVariants as refusal;
 ghost use Rattle.ix_examples.specs.SmallAnswers.{parse_g_t, one_way, both_ways};
+ghost use Rattle.ix_examples.specs.SmallGivens.{text_of, document as element_with};
+ghost use Rattle.ix_cli.specs.declared.answer.Answer.TheVariants as answer;
+ghost use Rattle.ix_cli.specs.Answered.{IsAnswered, IsCutOff, IsMessage};
+ghost use Rattle.ix_cli.specs.Causes.{IsCaused};
+ghost use Rattle.ix_cli.specs.Examples.{holding, without_text, raised, no_count};
 ghost use Rattle.ix_cli.specs.Form.{HasForm, HasSomeForm};
-ghost use Rattle.ix_cli.specs.Laws.{ReplyIsOne};
-ghost use Rattle.ix_cli.specs.Lines.{memory_line, not_built_line, write_line};
-ghost use Rattle.ix_cli.specs.Plain.{IsPlain, ArePlain};
-ghost use Rattle.ix_cli.specs.PlainGrammar.{IsPlainGrammar};
-ghost use Rattle.ix_cli.specs.PlainText.{IsPlainText};
-ghost use Rattle.ix_cli.specs.Reply.{reply, not_built, IsReply, HasDocument};
-ghost use Rattle.ix_examples.specs.SmallGrammars.{only_a, quoted, deleted, call, same_names};
-ghost use Rattle.ix_examples.specs.SmallSpellings.{of_version};
-ghost use Rattle.ix_cli.specs.Numbers.{AreCharacters};
-ghost use Rattle.ix_model.specs.Answers.Outcome.{no_form, no_grammar};
+ghost use Rattle.ix_cli.specs.Laws.{ReplyIsOne, ReplyIsCaused};
+ghost use Rattle.ix_cli.specs.Lines.{memory_line, write_line};
+ghost use Rattle.ix_cli.specs.Means.{of_refusal, of_fault};
+ghost use Rattle.ix_cli.specs.Refused.{IsRefused};
 ghost use Rattle.ix_cli.specs.Says.{Says};
+ghost use Rattle.ix_cli.specs.Shown.{Shows};
+ghost use Rattle.ix_cli.specs.Table.{IsReply};
 ghost use Rattle.ix_cli.specs.Unread.{IsUnread};
 
 /// The table has at most one answer for the words and the files.
 pub fn reply_is_one()
     ensures { ReplyIsOne }
+{}
+
+/// The status of what the table has for the words and the files is one from 0 to 6 exactly where its cause holds.
+pub fn reply_is_caused()
+    ensures { ReplyIsCaused }
 {}
 
 /// `parse g t` has the form; without `t`, with `-t` and with another first word it has none.
@@ -35,44 +41,95 @@ pub fn words_with_a_form()
     ensures other_word { ¬ (HasSomeForm (codes "check" ∷ codes "g" ∷ codes "t" ∷ [])) }
 {}
 
-/// A space and a tilde are answered, a line feed and a letter beyond ASCII are not.
-pub fn texts_that_are_answered()
-    ensures printable { IsPlainText (codes " ~") }
-    ensures line_feed { ¬ (IsPlainText (10 ∷ [])) }
-    ensures beyond_ascii { ¬ (IsPlainText (0xC3 ∷ 0xA9 ∷ [])) }
+/// `S: "a".` has the document `<S>a</S>` for `a`, a failed document for `ab` and none for bytes that are not UTF-8.
+/// `S: "a"; "a".` has a document for `a` that says that it is ambiguous.
+pub fn texts_under_a_grammar()
+    ensures single { IsReply parse_g_t (holding one_way (codes "a")) (document (element_with (text_of (codes "a"))) Single) }
+    ensures not_ambiguous { ¬ (IsReply parse_g_t (holding one_way (codes "a")) (document (element_with (text_of (codes "a"))) Ambiguous)) }
+    ensures ambiguous { IsReply parse_g_t (holding both_ways (codes "a")) (document (element_with (text_of (codes "a"))) Ambiguous) }
+    ensures failed { IsReply parse_g_t (holding one_way (codes "ab")) (failed 1 1 2) }
+    ensures not_earlier { ¬ (IsReply parse_g_t (holding one_way (codes "ab")) (failed 0 1 1)) }
+    ensures not_utf8 { IsReply parse_g_t (holding one_way (97 ∷ 195 ∷ [])) (text_not_utf8 1) }
 {}
 
-/// `S: "a".` on `a` is answered by the document `<S>a</S>`, and by nothing else.
-pub fn one_literal_is_answered()
-    ensures answer { HasDocument parse_g_t (holding one_way (codes "a")) (codes "<S>a</S>\n") }
-    ensures not_refused { ¬ (IsReply parse_g_t (holding one_way (codes "a")) not_built) }
-    ensures not_cut_off { ¬ (HasDocument parse_g_t (holding one_way (codes "a")) (codes "<S>a</S>")) }
+/// An empty file is no grammar, whether there is a text or not. Where the files lack the text of a grammar, the table has
+/// no answer. Words without a form have one answer, whatever the files hold.
+pub fn words_and_grammars()
+    ensures no_grammar { IsReply parse_g_t (holding [] (codes "a")) no_grammar }
+    ensures before_text { IsReply parse_g_t (without_text []) no_grammar }
+    ensures no_text { (o : Outcome) → ¬ (IsReply parse_g_t (without_text one_way) o) }
+    ensures no_words { IsReply [] (holding one_way (codes "ab")) no_form }
+    ensures not_answered { ¬ (IsReply [] (holding one_way (codes "ab")) (failed 1 1 2)) }
+    ensures has_words { ¬ (IsReply parse_g_t (holding one_way (codes "ab")) no_form) }
 {}
 
-/// `S: "a".` on `b` has no derivation, and `S: "a"; "a".` on `a` has two: neither is answered. An empty file is no grammar.
-pub fn texts_that_are_refused()
-    ensures none { IsReply parse_g_t (holding one_way (codes "b")) not_built }
-    ensures two { IsReply parse_g_t (holding both_ways (codes "a")) not_built }
-    ensures no_grammar { IsReply parse_g_t (holding [] (codes "a")) (reply no_grammar) }
-    ensures no_words { IsReply [] (holding one_way (codes "a")) (reply no_form) }
-    ensures not_words { ¬ (IsReply [] (holding one_way (codes "a")) not_built) }
+/// Each status has its cause, and the cause no other status.
+pub fn statuses_with_causes()
+    ensures document { IsCaused parse_g_t (holding one_way (codes "a")) 0 }
+    ensures no_derivation { IsCaused parse_g_t (holding one_way (codes "ab")) 1 }
+    ensures not_document { ¬ (IsCaused parse_g_t (holding one_way (codes "ab")) 0) }
+    ensures no_form { IsCaused [] (holding one_way (codes "a")) 2 }
+    ensures no_grammar { IsCaused parse_g_t (holding [] (codes "a")) 3 }
+    ensures not_utf8 { IsCaused parse_g_t (holding one_way (97 ∷ 195 ∷ [])) 5 }
+    ensures not_derived { ¬ (IsCaused parse_g_t (holding one_way (97 ∷ 195 ∷ [])) 1) }
 {}
 
-/// A grammar whose count rose is unread, a file that the words do not name never is.
+/// A grammar may have 1,048,576 bytes and a text 16,777,216. One more is too long, whatever else is wrong with it.
+pub fn lengths_with_causes()
+    ensures long_grammar { (bytes : List ℕ) → length bytes ≡ 1048577 → IsCaused parse_g_t (holding bytes []) 3 }
+    ensures other_grammar { (bytes : List ℕ) → length bytes ≡ 1048576 → ¬ (IsUtf8 bytes) → IsCaused parse_g_t (holding bytes []) 5 }
+    ensures long_text { (bytes : List ℕ) → length bytes ≡ 16777217 → IsCaused parse_g_t (holding one_way bytes) 6 }
+    ensures not_long { (bytes : List ℕ) → length bytes ≡ 16777216 → ¬ (IsCaused parse_g_t (holding one_way bytes) 6) }
+    ensures other_text { (bytes : List ℕ) → length bytes ≡ 16777216 → ¬ (IsUtf8 bytes) → IsCaused parse_g_t (holding one_way bytes) 5 }
+{}
+
+/// A grammar whose count rose is unread, a file that the words do not name never is. The text is unread only behind a
+/// grammar.
 pub fn files_that_are_unread()
     ensures grammar { IsUnread parse_g_t (Some (holding [] [])) no_count (raised (codes "g")) (codes "g") }
     ensures not_raised { ¬ (IsUnread parse_g_t (Some (holding [] [])) no_count no_count (codes "g")) }
+    ensures text { IsUnread parse_g_t (Some (holding one_way [])) no_count (raised (codes "t")) (codes "t") }
     ensures text_before_grammar { ¬ (IsUnread parse_g_t (Some (holding [] [])) no_count (raised (codes "t")) (codes "t")) }
     ensures not_named { ¬ (IsUnread parse_g_t (Some (holding [] [])) no_count (raised (codes "x")) (codes "x")) }
+{}
+
+/// Words are refused only where they have no form. A write is never refused before it was tried.
+pub fn answers_that_are_refused()
+    ensures words { IsRefused [] (Some (holding one_way [])) no_count no_count answer.Words }
+    ensures not_words { ¬ (IsRefused parse_g_t (Some (holding one_way [])) no_count no_count answer.Words) }
+    ensures grammar { IsRefused parse_g_t (Some (holding [] [])) no_count no_count (answer.Grammar refusal.NotIxml) }
+    ensures not_grammar { ¬ (IsRefused parse_g_t (Some (holding one_way (codes "ab"))) no_count no_count (answer.Grammar refusal.NotIxml)) }
+    ensures text { IsRefused parse_g_t (Some (holding one_way (97 ∷ 195 ∷ []))) no_count no_count (answer.Text (fault.NotUtf8 1)) }
+    ensures not_text { ¬ (IsRefused parse_g_t (Some (holding one_way (codes "ab"))) no_count no_count (answer.Text (fault.NotUtf8 1))) }
+    ensures memory { IsRefused parse_g_t (Some (holding one_way [])) no_count no_count answer.Memory }
+    ensures write { ¬ (IsRefused parse_g_t (Some (holding one_way [])) no_count no_count answer.Write) }
+{}
+
+/// Want of memory is one answer, wherever it comes from; all else keeps what it says.
+pub fn what_refusals_mean()
+    ensures memory { of_refusal refusal.Memory ≡ answer.Memory }
+    ensures grammar { of_refusal refusal.TooDeep ≡ answer.Grammar refusal.TooDeep }
+    ensures memory_for_a_text { of_fault fault.Memory ≡ answer.Memory }
+    ensures text { of_fault fault.TooLong ≡ answer.Text fault.TooLong }
+{}
+
+/// What goes to the output has the status and all the bytes of its outcome.
+pub fn outputs_of_an_outcome()
+    ensures document { (v : Vec ℕ Global) → v.items ≡ codes "<S>a</S>\n" → Shows (document (element_with (text_of (codes "a"))) Single) (record { status = 0; bytes = v }) }
+    ensures not_failed { (v : Vec ℕ Global) → ¬ (Shows (document (element_with (text_of (codes "a"))) Single) (record { status = 1; bytes = v })) }
+    ensures not_shorter { (v : Vec ℕ Global) → v.items ≡ codes "<S>a</S>" → ¬ (Shows (document (element_with (text_of (codes "a"))) Single) (record { status = 0; bytes = v })) }
+    ensures failed { (v : Vec ℕ Global) → v.items ≡ codes "<fail xmlns:ixml=\"http://invisiblexml.org/NS\" ixml:state=\"failed\" offset=\"1\" line=\"1\" column=\"2\"/>\n" → Shows (failed 1 1 2) (record { status = 1; bytes = v }) }
+    ensures no_output { (v : Vec ℕ Global) → ¬ (Shows no_grammar (record { status = 3; bytes = v })) }
 {}
 
 /// Status and output are those of the table, and what a fault of the output leaves is the front of its document.
 pub fn outputs_of_the_table()
     ensures answered { IsAnswered parse_g_t (Some (holding one_way (codes "a"))) (Some []) (Some (codes "<S>a</S>\n")) 0 (Says (Some []) (Some []) 0 0) }
     ensures not_shorter { ¬ (IsAnswered parse_g_t (Some (holding one_way (codes "a"))) (Some []) (Some (codes "<S>a</S>")) 0 (Says (Some []) (Some []) 0 0)) }
-    ensures not_refused { ¬ (IsAnswered parse_g_t (Some (holding one_way (codes "a"))) (Some []) (Some []) 10 (Says (Some []) (Some []) 0 0)) }
+    ensures not_refused { ¬ (IsAnswered parse_g_t (Some (holding one_way (codes "a"))) (Some []) (Some []) 3 (Says (Some []) (Some []) 0 0)) }
     ensures front { IsCutOff parse_g_t (Some (holding one_way (codes "a"))) (Some []) (Some (codes "<S>a")) }
     ensures not_front { ¬ (IsCutOff parse_g_t (Some (holding one_way (codes "a"))) (Some []) (Some (codes "S"))) }
+    ensures no_output { ¬ (IsCutOff parse_g_t (Some (holding [] [])) (Some []) (Some [])) }
 {}
 
 /// A line is said where it was appended; where the count of faults rose, nothing is claimed.
@@ -82,35 +139,14 @@ pub fn lines_that_are_said()
     ensures failed { Says (Some []) (Some []) 0 1 memory_line }
 {}
 
-/// `S: "a".` is plain, whatever its version; a grammar of two rules is not.
-pub fn grammars_that_are_plain()
-    ensures plain { IsPlainGrammar only_a }
-    ensures version { IsPlainGrammar (of_version (codes "1.0") (quoted (codes "a"))) }
-    ensures two_rules { ¬ (IsPlainGrammar same_names) }
-{}
-
-/// Nothing is said at status 0. At 10 its own line is, and no other.
+/// Nothing is said at status 0 and at 1. At each other status its own line is, and no other.
 pub fn messages_of_a_status()
     ensures silent { IsMessage 0 (λ line. line ≡ []) }
-    ensures not_built { IsMessage 10 (λ line. line ≡ not_built_line) }
-    ensures another { ¬ (IsMessage 10 (λ line. line ≡ write_line)) }
-{}
-
-/// `#41` is the number of a character; `#D800` and `#110000` are none.
-pub fn numbers_of_characters()
-    ensures letter { AreCharacters (codes "41" ∷ []) }
-    ensures surrogate { ¬ (AreCharacters (codes "D800" ∷ [])) }
-    ensures beyond { ¬ (AreCharacters (codes "41" ∷ codes "110000" ∷ [])) }
-{}
-
-/// A plain term is a literal or a set without a mark.
-pub fn plain_terms()
-    ensures literal { IsPlain (quoted (codes "a")) }
-    ensures number { IsPlain (One (Lit None (Code (codes "41")))) }
-    ensures set { IsPlain (One (Set None true [])) }
-    ensures deleted_set { ¬ (IsPlain (One (Set (Some Deleted) true []))) }
-    ensures mark { ¬ (IsPlain (One (deleted (codes "a")))) }
-    ensures call { ¬ (IsPlain (call (codes "a"))) }
-    ensures both { ArePlain (quoted (codes "a") ∷ quoted [] ∷ []) }
-    ensures not_both { ¬ (ArePlain (quoted (codes "a") ∷ call (codes "a") ∷ [])) }
+    ensures silent_at_failure { IsMessage 1 (λ line. line ≡ []) }
+    ensures not_at_success { ¬ (IsMessage 0 (λ line. line ≡ write_line)) }
+    ensures not_at_failure { ¬ (IsMessage 1 (λ line. line ≡ write_line)) }
+    ensures no_document { IsMessage 4 (λ line. line ≡ message_of (refused attribute_xmlns)) }
+    ensures too_long { IsMessage 6 (λ line. line ≡ message_of text_too_long) }
+    ensures another { ¬ (IsMessage 6 (λ line. line ≡ write_line)) }
+    ensures not_silent { ¬ (IsMessage 6 (λ line. line ≡ [])) }
 {}

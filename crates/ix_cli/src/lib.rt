@@ -5,13 +5,11 @@
 #![tactic(auto)]
 
 mod answer;
-mod document;
 pub mod laws;
 mod lines;
 mod load;
-mod plain;
+mod output;
 mod run;
-mod search;
 mod telling;
 mod words;
 

@@ -1,13 +1,12 @@
 //! The line of each answer.
 
-ghost use Rattle.std.specs.Prelude.{◌≡◌, ◌++◌, IfOk, codes, decimal};
+ghost use Rattle.std.specs.Prelude.{◌≡◌, ◌++◌, IfOk, codes, decimal, string_bytes};
 ghost use Rattle.ix_model.specs.Answers.Outcome.{hexadecimal};
 ghost use Rattle.ix_model.specs.Documents.Xml.{name_bytes};
-ghost use Rattle.ix_cli.specs.Lines.{line_of, read_line, refusal_line};
+ghost use Rattle.ix_cli.specs.Lines.{line_of, read_line, refusal_line, fault_line, code_line};
 
 use crate::answer::Answer;
-use crate::document::name_text;
-use ix_engine::Refusal;
+use ix_engine::{DynFault, ParseFault, Refusal};
 use ix_model::Text;
 use std::alloc::{AllocError, Global};
 
@@ -30,7 +29,15 @@ const UNDEFINED: &str = "ixml: G06: no rule ";
 
 const DUPLICATE: &str = "ixml: G07: two rules ";
 
-const NOT_BUILT: &[u8] = b"ixml: not built yet\n";
+const TEXT_TOO_LONG: &[u8] = b"ixml: text longer than 16777216 bytes\n";
+
+const ATTRIBUTE_AT_TOP: &str = "ixml: E01: attribute ";
+
+const BAD_NAME: &str = "ixml: E03: ";
+
+const XMLNS: &[u8] = b"ixml: E04: attribute xmlns\n";
+
+const SAME_ATTRIBUTE: &str = "ixml: E05: attribute ";
 
 const WRITE: &[u8] = b"ixml: cannot write\n";
 
@@ -44,20 +51,20 @@ pub fn message(alloc: Global, answer: &Answer) -> Result<Vec<u8>, AllocError>
     match answer {
         Answer::Words => Vec::from_slice(alloc, WORDS),
         Answer::Grammar(refusal) => refusal_message(alloc, refusal),
-        Answer::NotBuilt => Vec::from_slice(alloc, NOT_BUILT),
+        Answer::Text(fault) => fault_message(alloc, fault),
         Answer::Read(name) => read_message(alloc, name.as_str()),
         Answer::Write => Vec::from_slice(alloc, WRITE),
         Answer::Memory => Vec::from_slice(alloc, MEMORY),
     }
 }
 
-#[tactic(auto, using(crate::proofs::LineForms::not_utf8_line, crate::proofs::LineForms::version_line, crate::proofs::LineForms::range_line))]
+#[tactic(auto, using(crate::proofs::LineForms::grammar_line, crate::proofs::LineForms::version_line, crate::proofs::LineForms::range_line))]
 fn refusal_message(alloc: Global, refusal: &Refusal) -> Result<Vec<u8>, AllocError>
     ensures { IfOk result (λ line. line.items ≡ refusal_line refusal.now) }
 {
     match refusal {
         Refusal::FileTooLong => Vec::from_slice(alloc, FILE_TOO_LONG),
-        Refusal::NotUtf8 { valid } => not_utf8_message(alloc, *valid),
+        Refusal::NotUtf8 { valid } => not_utf8_message(alloc, "grammar", *valid),
         Refusal::NotIxml => Vec::from_slice(alloc, NOT_IXML),
         Refusal::TooDeep => Vec::from_slice(alloc, TOO_DEEP),
         Refusal::Version(text) => about(alloc, VERSION, text, "\"\n"),
@@ -70,12 +77,49 @@ fn refusal_message(alloc: Global, refusal: &Refusal) -> Result<Vec<u8>, AllocErr
     }
 }
 
-// What is said of a text of the grammar.
+#[tactic(auto, using(crate::proofs::LineForms::text_line))]
+fn fault_message(alloc: Global, fault: &ParseFault) -> Result<Vec<u8>, AllocError>
+    ensures { IfOk result (λ line. line.items ≡ fault_line fault.now) }
+{
+    match fault {
+        ParseFault::TooLong => Vec::from_slice(alloc, TEXT_TOO_LONG),
+        ParseFault::NotUtf8 { valid } => not_utf8_message(alloc, "text", *valid),
+        ParseFault::Dynamic(code) => code_message(alloc, code),
+        ParseFault::Memory => Vec::from_slice(alloc, MEMORY),
+    }
+}
+
+#[tactic(auto, using(crate::proofs::LineForms::twice_line, crate::proofs::LineForms::character_line))]
+fn code_message(alloc: Global, code: &DynFault) -> Result<Vec<u8>, AllocError>
+    ensures { IfOk result (λ line. line.items ≡ code_line code.now) }
+{
+    match code {
+        DynFault::AttributeAtTop { name } => about(alloc, ATTRIBUTE_AT_TOP, name, " at the top\n"),
+        DynFault::NotOneElement { elements, chars } => top_message(alloc, *elements, *chars),
+        DynFault::BadName { name } => about(alloc, BAD_NAME, name, " is no XML name\n"),
+        DynFault::Xmlns => Vec::from_slice(alloc, XMLNS),
+        DynFault::SameAttribute { name } => about(alloc, SAME_ATTRIBUTE, name, " twice\n"),
+        DynFault::BadChar { code } => character_message(alloc, *code),
+    }
+}
+
+// What is said of characters of the grammar.
 fn about(alloc: Global, before: &str, text: &Text, behind: &str) -> Result<Vec<u8>, AllocError>
     ensures { IfOk result (λ line. line.items ≡ before.now ++ (name_bytes text.now ++ behind.now)) }
 {
-    let text = name_text(alloc, text.as_slice())?;
+    let text = text_of(alloc, text.as_slice())?;
     Ok(format!(in alloc; "{before}{text}{behind}")?.into_bytes())
+}
+
+// The characters in UTF-8.
+fn text_of(alloc: Global, chars: &[char]) -> Result<String, AllocError>
+    ensures { IfOk result (λ text. string_bytes text ≡ name_bytes chars.now) }
+{
+    let mut text = String::with_capacity(alloc, chars.len())?;
+    for &c in chars {
+        text.push(c)?;
+    }
+    Ok(text)
 }
 
 #[tactic(auto, unfolding(ix_model::specs::Answers::Outcome::hexadecimal))]
@@ -85,10 +129,25 @@ fn range_message(alloc: Global, low: u32, high: u32) -> Result<Vec<u8>, AllocErr
     Ok(format!(in alloc; "ixml: G04: range from #{low:x} to #{high:x}\n")?.into_bytes())
 }
 
-fn not_utf8_message(alloc: Global, valid: u64) -> Result<Vec<u8>, AllocError>
-    ensures { IfOk result (λ line. line.items ≡ codes "ixml: grammar is not UTF-8 after " ++ (decimal valid ++ codes " bytes\n")) }
+fn not_utf8_message(alloc: Global, what: &str, valid: u64) -> Result<Vec<u8>, AllocError>
+    ensures { IfOk result (λ line. line.items ≡ codes "ixml: " ++ (what.now ++ (codes " is not UTF-8 after " ++ (decimal valid ++ codes " bytes\n")))) }
 {
-    Ok(format!(in alloc; "ixml: grammar is not UTF-8 after {valid} bytes\n")?.into_bytes())
+    Ok(format!(in alloc; "ixml: {what} is not UTF-8 after {valid} bytes\n")?.into_bytes())
+}
+
+fn top_message(alloc: Global, elements: u64, chars: u64) -> Result<Vec<u8>, AllocError>
+    ensures { IfOk result (λ line. line.items ≡ codes "ixml: E02: " ++ (decimal elements ++ (codes " elements and " ++ (decimal chars ++ codes " characters at the top\n")))) }
+{
+    Ok(format!(in alloc;
+        "ixml: E02: {elements} elements and {chars} characters at the top\n"
+    )?.into_bytes())
+}
+
+#[tactic(auto, unfolding(ix_model::specs::Answers::Outcome::hexadecimal))]
+fn character_message(alloc: Global, code: u32) -> Result<Vec<u8>, AllocError>
+    ensures { IfOk result (λ line. line.items ≡ codes "ixml: E06: character #" ++ (hexadecimal code ++ codes " is not allowed in XML\n")) }
+{
+    Ok(format!(in alloc; "ixml: E06: character #{code:x} is not allowed in XML\n")?.into_bytes())
 }
 
 fn read_message(alloc: Global, name: &str) -> Result<Vec<u8>, AllocError>

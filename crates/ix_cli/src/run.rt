@@ -1,19 +1,20 @@
-ghost use Rattle.std.specs.Prelude.{◌≡◌, ◌≢◌, ◌⊎◌, ◌≤◌, ◌<◌, ℕ, List, length, IfOk, IfErr, IfSome, map, string_bytes};
+ghost use Rattle.std.specs.Prelude.{◌≡◌, ◌≢◌, ◌⊎◌, ◌≤◌, ℕ, List, IfOk, IfErr, IfSome, map, string_bytes};
 ghost use Rattle.std.specs.Io.KnownBytes.{Keeps};
 ghost use Rattle.ix_edge.specs.Causes.{Rose};
 ghost use Rattle.ix_cli.specs.Answered.{IsAnswered, IsCutOff, IsMessage};
+ghost use Rattle.ix_cli.specs.Causes.{IsCaused};
 ghost use Rattle.ix_cli.specs.Form.{HasForm, HasSomeForm};
 ghost use Rattle.ix_cli.specs.Lines.{read_line};
-ghost use Rattle.ix_cli.specs.Refused.{IsDocumentRefused};
-ghost use Rattle.ix_cli.specs.Reply.{HasDocument};
+ghost use Rattle.ix_cli.specs.Refused.{IsRefused};
 ghost use Rattle.ix_cli.specs.Says.{Says};
+ghost use Rattle.ix_cli.specs.Shown.{ShowsReply};
 ghost use Rattle.ix_cli.specs.Unread.{IsUnread};
 ghost use Rattle.ix_cli.specs.Written.{IsWritten};
 
 use crate::answer::Answer;
 use crate::lines::{MEMORY, message};
 use crate::load::{load_grammar, load_text};
-use crate::plain::only_document;
+use crate::output::{Output, output_of};
 use crate::telling::{refuse, tell};
 use crate::words::operands;
 use ix_edge::{Files, Sink};
@@ -21,12 +22,13 @@ use std::alloc::Global;
 
 /// Runs the command that the words after the program's name spell, alone and on one thread, and gives its exit status.
 ///
-/// The document goes to `out`, and one line to `msg` where there is none. The status is 0 at a document, 2 where the
-/// words have no form, 3 where the grammar is refused (G01 to G09), 5 where it is not UTF-8, 7 where a file could not
-/// be read, 8 where the document could not be written, 9 where memory ran out, and 10 where the grammar or the text is
-/// of a form that is not answered, or the text has not exactly one derivation. Want of memory may come at any call;
-/// nothing is written to `out` then. A fault of `msg` changes nothing.
-#[tactic(auto, using(crate::proofs::Refusing::refused_answered))]
+/// The document goes to `out` in one put, or the failed document; and one line to `msg` where there is neither. The status is
+/// the first of these that applies: 2 where the words have no form; 7 where the grammar could not be read; 3 where it is
+/// refused (G01 to G09), or 5 where it is not UTF-8; 7 where the text could not be read; 6 where it has more than
+/// 16,777,216 bytes; 5 where it is not UTF-8; 1 where it has no derivation, with the failed document; 4 where what its
+/// first derivation gives is no document (E01 to E06); else 0, or 8 where the output could not be written. Want of memory,
+/// with status 9, may come at any call before the put. At a status other than 0, 1 and 8 nothing is written to `out`. A
+/// fault of `msg` changes nothing.
 pub fn run_alone<F: Files, O: Sink, M: Sink>(
     alloc: Global,
     words: &[String],
@@ -45,16 +47,20 @@ pub fn run_alone<F: Files, O: Sink, M: Sink>(
         IsAnswered (map string_bytes words.now) (F.told files.old) (O.written out.old) (O.written out.new) result
         (Says (M.written msg.old) (M.written msg.new) (M.faults msg.old) (M.faults msg.new)) }
 
-    // The causes of the other answers.
+    // Each status from 0 to 6 comes exactly where its cause holds.
+    ensures causes { result ≢ 7 → result ≢ 8 → result ≢ 9 →
+        IfSome (F.told files.old) (λ told. IsCaused (map string_bytes words.now) told result) }
     ensures no_form { ¬ (HasSomeForm (map string_bytes words.now)) → (result ≡ 2) ⊎ (result ≡ 9) }
     ensures words { result ≡ 2 → ¬ (HasSomeForm (map string_bytes words.now)) }
+
+    // The causes of the other answers.
     ensures read { result ≡ 7 → (name : List ℕ)
         × IsUnread (map string_bytes words.now) (F.told files.old) (F.faults files.old) (F.faults files.new) name
         × Says (M.written msg.old) (M.written msg.new) (M.faults msg.old) (M.faults msg.new) (read_line name) }
     ensures write { result ≡ 8 → Rose (O.faults out.old) (O.faults out.new) }
     ensures cut_off { result ≡ 8 →
         IsCutOff (map string_bytes words.now) (F.told files.old) (O.written out.old) (O.written out.new) }
-    ensures nothing { result ≢ 0 → result ≢ 8 → Keeps (O.written out.old) (O.written out.new) }
+    ensures nothing { result ≢ 0 → result ≢ 1 → result ≢ 8 → Keeps (O.written out.old) (O.written out.new) }
 
     // The message is the line of an answer that has this status.
     ensures message { IsMessage result (Says (M.written msg.old) (M.written msg.new) (M.faults msg.old) (M.faults msg.new)) }
@@ -62,18 +68,18 @@ pub fn run_alone<F: Files, O: Sink, M: Sink>(
     ensures same { F.told files.new ≡ F.told files.old }
     ensures later { (name : List ℕ) → F.faults files.old name ≤ F.faults files.new name }
 {
-    match document(alloc, words, files) {
-        Ok(text) => write(alloc, text.as_bytes(), out, msg),
+    match answer_of(alloc, words, files) {
+        Ok(output) => write(alloc, &output, out, msg),
         Err(answer) => refuse(alloc, &answer, msg),
     }
 }
 
-// The document of the files that the words name.
-fn document<F: Files>(alloc: Global, words: &[String], files: &mut F) -> Result<String, Answer>
+// What is written of the files that the words name.
+fn answer_of<F: Files>(alloc: Global, words: &[String], files: &mut F) -> Result<Output, Answer>
     ensures form { IfOk result (λ _. HasSomeForm (map string_bytes words.now)) }
-    ensures some { IfOk result (λ text. 0 < length (string_bytes text)) }
-    ensures ok { IfOk result (λ text. IfSome (F.told files.old) (λ told. HasDocument (map string_bytes words.now) told (string_bytes text))) }
-    ensures err { IfErr result (IsDocumentRefused (map string_bytes words.now) (F.told files.old) (F.faults files.old) (F.faults files.new)) }
+    ensures status { IfOk result (λ output. (output.status ≡ 0) ⊎ (output.status ≡ 1)) }
+    ensures ok { IfOk result (λ output. IfSome (F.told files.old) (λ told. ShowsReply (map string_bytes words.now) told output)) }
+    ensures err { IfErr result (IsRefused (map string_bytes words.now) (F.told files.old) (F.faults files.old) (F.faults files.new)) }
     ensures same { F.told files.new ≡ F.told files.old }
     ensures later { (name : List ℕ) → F.faults files.old name ≤ F.faults files.new name }
 {
@@ -82,20 +88,20 @@ fn document<F: Files>(alloc: Global, words: &[String], files: &mut F) -> Result<
     };
     let grammar = load_grammar(alloc, grammar, files)?;
     let text = load_text(alloc, text, files)?;
-    only_document(alloc, &grammar, &text)
+    Ok(output_of(alloc, &grammar, &text)?)
 }
 
-// Puts a document. The line for a fault is made before, so that want of memory never comes after a byte was put.
-fn write<O: Sink, M: Sink>(alloc: Global, document: &[u8], out: &mut O, msg: &mut M) -> u8
+// Puts what goes to the output. The line for a fault is made before, so that want of memory never comes after a byte was put.
+fn write<O: Sink, M: Sink>(alloc: Global, output: &Output, out: &mut O, msg: &mut M) -> u8
     ensures { IsWritten (O.written out.old) (O.written out.new) (O.faults out.old) (O.faults out.new)
-        (M.written msg.old) (M.written msg.new) (M.faults msg.old) (M.faults msg.new) document.now result }
+        (M.written msg.old) (M.written msg.new) (M.faults msg.old) (M.faults msg.new) output.now result }
 {
     let Ok(line) = message(alloc, &Answer::Write) else {
         tell(MEMORY, msg);
         return Answer::Memory.status();
     };
-    match out.put(document) {
-        Ok(()) => 0,
+    match out.put(&output.bytes) {
+        Ok(()) => output.status,
         Err(_) => {
             tell(&line, msg);
             Answer::Write.status()

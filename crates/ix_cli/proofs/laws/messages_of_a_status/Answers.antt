@@ -1,39 +1,71 @@
-use Rattle.std.proofs.Common.{◌≡◌, refl, ap, length, arith}
+use Rattle.std.proofs.Common.{◌≡◌, ◌≤◌, refl, ap, length, arith}
 use mathlib.Core.Logic.{inl, inr}
+use Rattle.ix_engine.specs.declared.outcome.DynFault.TheVariants as code
+use Rattle.ix_engine.specs.declared.outcome.ParseFault.{ParseFault}
+use Rattle.ix_engine.specs.declared.outcome.ParseFault.TheVariants as fault
 use Rattle.ix_engine.specs.declared.refusal.Refusal.{Refusal}
 use Rattle.ix_engine.specs.declared.refusal.Refusal.TheVariants as refusal
 use Rattle.ix_cli.specs.declared.answer.Answer.{Answer}
 use Rattle.ix_cli.specs.declared.answer.Answer.TheVariants as answer
-use Rattle.ix_cli.specs.Lines.{line_of, status_of, refusal_status, write_line}
+use Rattle.ix_cli.specs.Lines.{line_of, status_of, refusal_status, fault_status}
 use Rattle.ix_cli.proofs.laws.messages_of_a_status.Goals as goal
 
 pub returns-clause-silent : goal.returns-clause-silent
-returns-clause-silent c = inl (refl, refl)
+returns-clause-silent c = inl (inl refl, refl)
 
-pub returns-clause-not_built : goal.returns-clause-not_built
-returns-clause-not_built c = inr (answer.NotBuilt, refl, refl)
+pub returns-clause-silent_at_failure : goal.returns-clause-silent_at_failure
+returns-clause-silent_at_failure c = inl (inr refl, refl)
 
-no_refusal : (r : Refusal) → 10 ≡ refusal_status r → ⊥
-no_refusal refusal.FileTooLong e = omega (arith, e)
-no_refusal (refusal.NotUtf8 valid) e = omega (arith, e)
-no_refusal refusal.NotIxml e = omega (arith, e)
-no_refusal refusal.TooDeep e = omega (arith, e)
-no_refusal (refusal.Version text) e = omega (arith, e)
-no_refusal (refusal.CodePoint digits) e = omega (arith, e)
-no_refusal (refusal.Range low high) e = omega (arith, e)
-no_refusal (refusal.Class name) e = omega (arith, e)
-no_refusal (refusal.Undefined name) e = omega (arith, e)
-no_refusal (refusal.Duplicate name) e = omega (arith, e)
-no_refusal refusal.Memory e = omega (arith, e)
+pub returns-clause-no_document : goal.returns-clause-no_document
+returns-clause-no_document c = inr (answer.Text (fault.Dynamic code.Xmlns), refl, refl)
 
-its_own : (a : Answer) → 10 ≡ status_of a → line_of a ≡ write_line → ⊥
-its_own answer.Words e said = omega (arith, e)
-its_own (answer.Grammar r) e said = no_refusal r e
-its_own answer.NotBuilt e said = let f : 20 ≡ 19 = ap length said in omega (arith, f)
-its_own (answer.Read name) e said = omega (arith, e)
-its_own answer.Write e said = omega (arith, e)
-its_own answer.Memory e said = omega (arith, e)
+pub returns-clause-too_long : goal.returns-clause-too_long
+returns-clause-too_long c = inr (answer.Text fault.TooLong, refl, refl)
+
+-- an answer has a status other than 0 and 1
+refusal_is_said : (r : Refusal) → 2 ≤ refusal_status r
+refusal_is_said refusal.Memory = omega arith
+refusal_is_said r = omega arith
+
+fault_is_said : (f : ParseFault) → 2 ≤ fault_status f
+fault_is_said fault.Memory = omega arith
+fault_is_said f = omega arith
+
+is_said : (a : Answer) → 2 ≤ status_of a
+is_said (answer.Grammar r) = refusal_is_said r
+is_said (answer.Text f) = fault_is_said f
+is_said a = omega arith
+
+pub returns-clause-not_at_success : goal.returns-clause-not_at_success
+returns-clause-not_at_success c (inl h) = absurd (cc h.1)
+returns-clause-not_at_success c (inr (a, e, said)) = omega (arith, is_said a, e)
+
+pub returns-clause-not_at_failure : goal.returns-clause-not_at_failure
+returns-clause-not_at_failure c (inl h) = absurd (cc h.1)
+returns-clause-not_at_failure c (inr (a, e, said)) = omega (arith, is_said a, e)
+
+-- only a text that is too long has status 6
+refusal_is_none : (r : Refusal) → 6 ≡ refusal_status r → ⊥
+refusal_is_none refusal.Memory e = omega (arith, e)
+refusal_is_none r e = omega (arith, e)
+
+fault_is_long : (f : ParseFault) → 6 ≡ fault_status f → f ≡ fault.TooLong
+fault_is_long fault.TooLong e = refl
+fault_is_long f e = absurd (omega (arith, e))
+
+is_long : (a : Answer) → 6 ≡ status_of a → a ≡ answer.Text fault.TooLong
+is_long (answer.Text f) e = ap answer.Text (fault_is_long f e)
+is_long (answer.Grammar r) e = absurd (refusal_is_none r e)
+is_long a e = absurd (omega (arith, e))
+
+long_is_said : (a : Answer) → 6 ≡ status_of a → length (line_of a) ≡ 38
+long_is_said a e = ap (λ x. length (line_of x)) (is_long a e)
 
 pub returns-clause-another : goal.returns-clause-another
-returns-clause-another c (inl h) = omega (arith, h.0)
-returns-clause-another c (inr h) = its_own h.0 h.1 h.2
+returns-clause-another c (inl h) = absurd (cc h.1)
+returns-clause-another c (inr (a, e, said)) = let f : length (line_of a) ≡ 19 = ap length said in omega (arith, f, long_is_said a e)
+
+pub returns-clause-not_silent : goal.returns-clause-not_silent
+returns-clause-not_silent c (inl (inl e, h)) = omega (arith, e)
+returns-clause-not_silent c (inl (inr e, h)) = omega (arith, e)
+returns-clause-not_silent c (inr (a, e, said)) = let f : length (line_of a) ≡ 0 = ap length said in omega (arith, f, long_is_said a e)

@@ -1,4 +1,4 @@
-use Rattle.ix_cli.proofs.SmallReplies.{written_whole, not_shorter, not_nothing, written_front, not_another_front}
+use Rattle.ix_cli.proofs.SmallReplies.{written_whole, not_shorter, not_nothing, written_front, not_another_front, no_output}
 use Rattle.ix_cli.proofs.laws.outputs_of_the_table.Goals as goal
 
 pub returns-clause-answered : goal.returns-clause-answered
@@ -15,3 +15,6 @@ returns-clause-front c = written_front
 
 pub returns-clause-not_front : goal.returns-clause-not_front
 returns-clause-not_front c = not_another_front
+
+pub returns-clause-no_output : goal.returns-clause-no_output
+returns-clause-no_output c = no_output

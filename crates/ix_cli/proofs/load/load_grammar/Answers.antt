@@ -2,7 +2,7 @@ use Rattle.std.proofs.Common.{◌≡◌, ◌∙◌, take}
 use Rattle.ix_model.specs.Answers.Answer.{HoldsConforming}
 use Rattle.ix_engine.specs.Compiled.{IsRefusalOf}
 use Rattle.ix_cli.specs.Loaded.{Holds, IsGrammarFault}
-use Rattle.ix_cli.specs.Refusals.{of_refusal}
+use Rattle.ix_cli.specs.Means.{of_refusal}
 use Rattle.ix_cli.proofs.LoadedFiles.{holds_more, compiled_whole, refused_whole, refusal_caused}
 use Rattle.ix_cli.proofs.Replies.{handed_on}
 use Rattle.ix_cli.proofs.load.load_grammar.Goals as goal
@@ -18,17 +18,6 @@ returns-in_err-grammar-clause-err g c =
     handed_on c.from_residual-in_err-grammar.result (IsGrammarFault told (g.F.Files.faults c.args.files.now) (g.F.Files.faults c.load.new.files) name)
     (of_refusal c.in_err-grammar.field-0.0) c.from_residual-in_err-grammar.ensures.1
     (refusal_caused told (g.F.Files.faults c.args.files.now) (g.F.Files.faults c.load.new.files) name c.in_err-grammar.field-0.0 refused)
-
-pub returns-then-not-is_plain_grammar-clause-err :
-    goal.returns-then-not-is_plain_grammar-clause-err
-returns-then-not-is_plain_grammar-clause-err g c =
-    holds_more (g.F.Files.told c.args.files.now) c.args.name.now (λ bytes. c.in_ok-bytes.bytes.items ≡ take 1048577 bytes) _
-    (λ bytes e. (
-      c.in_ok-grammar.grammar,
-      compiled_whole c.in_ok-grammar.grammar c.deref.result.now bytes (c.deref.ensures.value ∙ e) c.in_ok-grammar.ensures.ok,
-      λ p. absurd (cc (c.is_plain_grammar.ensures.1 p, c.if-not-is_plain_grammar.true)),
-    ))
-    c.in_ok-bytes.ensures.ok
 
 pub returns-clause-ok : goal.returns-clause-ok
 returns-clause-ok g c =

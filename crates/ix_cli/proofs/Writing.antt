@@ -1,0 +1,31 @@
+-- What is answered where something goes to the output.
+use Rattle.std.proofs.Common.{◌≢◌, sym, ◌∙◌, subst, ℕ, List, [], Option, None, Some, IfSome}
+use Rattle.std.specs.Io.KnownBytes.{Appends, Keeps}
+use Rattle.std.proofs.KnownBytes.{Appends-nil, Appends-kept}
+use mathlib.Core.Logic.{inl, inr}
+use Rattle.ix_edge.specs.Told.{Told}
+use Rattle.ix_cli.specs.declared.output.Output.{Output}
+use Rattle.ix_cli.specs.Answered.{IsAnswered}
+use Rattle.ix_cli.specs.Causes.{IsCaused}
+use Rattle.ix_cli.specs.Says.{Says}
+use Rattle.ix_cli.specs.Shown.{ShowsReply}
+use Rattle.ix_cli.specs.Written.{IsWritten}
+use Rattle.ix_cli.proofs.Caused.{reply_caused}
+
+-- where the table's answer was given, its status has its cause
+pub answered_caused : (words : List (List ℕ)) (told : Option Told) (old new : Option (List ℕ)) (status : ℕ) (says : List ℕ → Type 0) → IsAnswered words told old new status says → IfSome told (λ files. IsCaused words files status)
+answered_caused words None old new status says h = tt
+answered_caused words (Some files) old new status says (o, r, e, a, s) = subst (IsCaused words files) (sym e) (reply_caused words files o r)
+
+-- bytes that stay grow by nothing
+kept_grows : (old new : Option (List ℕ)) → Keeps old new → Appends old new []
+kept_grows old new k = Appends-kept old old new [] (Appends-nil old) k
+
+-- what was written whole is the table's answer
+pub written_answered : (words : List (List ℕ)) (old new mo mn : Option (List ℕ)) (out_before out_now before now : ℕ) (output : Output) (told : Option Told) (status : ℕ) → IfSome told (λ files. ShowsReply words files output) →
+    IsWritten old new out_before out_now mo mn before now output status → status ≢ 8 → status ≢ 9 → IsAnswered words told old new status (Says mo mn before now)
+written_answered words old new mo mn out_before out_now before now output None status h w b c = tt
+written_answered words old new mo mn out_before out_now before now output (Some files) status (o, r, s) (inl (e, a, k)) b c =
+    (o, r, e ∙ s.status, subst (Appends old new) s.bytes a, subst (Says mo mn before now) (sym s.silent) (λ n. kept_grows mo mn k))
+written_answered words old new mo mn out_before out_now before now output (Some files) status h (inr (inl w)) b c = absurd (b w.0)
+written_answered words old new mo mn out_before out_now before now output (Some files) status h (inr (inr w)) b c = absurd (c w.0)

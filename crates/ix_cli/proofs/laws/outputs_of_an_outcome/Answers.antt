@@ -1,0 +1,23 @@
+use Rattle.std.proofs.Common.{◌≡◌, refl, sym, ap, ◌∙◌, length, arith}
+use Rattle.std.specs.Fmt.{digits}
+use lib.Utf8.{encode}
+use Rattle.ix_model.specs.Documents.FailedXml.{failed_xml}
+use Rattle.ix_cli.proofs.laws.outputs_of_an_outcome.Goals as goal
+
+pub returns-clause-document : goal.returns-clause-document
+unfolding encode
+returns-clause-document c v e = record { status = refl; bytes = e; some = omega arith; silent = refl }
+
+pub returns-clause-not_failed : goal.returns-clause-not_failed
+returns-clause-not_failed c v h = omega (arith, h.status)
+
+pub returns-clause-not_shorter : goal.returns-clause-not_shorter
+unfolding encode
+returns-clause-not_shorter c v e h = let f : 8 ≡ 9 = ap length (sym e ∙ h.bytes) in omega (arith, f)
+
+pub returns-clause-failed : goal.returns-clause-failed
+unfolding failed_xml digits
+returns-clause-failed c v e = record { status = refl; bytes = e; some = omega arith; silent = refl }
+
+pub returns-clause-no_output : goal.returns-clause-no_output
+returns-clause-no_output c v h = omega (arith, h.some)

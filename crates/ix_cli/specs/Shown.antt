@@ -1,0 +1,24 @@
+-- What goes to the output, as that of an outcome of the table.
+-- Source: this project's own.
+use Rattle.std.specs.Prelude.{◌≡◌, ◌<◌, ℕ, List, [], length}
+use Rattle.ix_model.specs.declared.grammar.Grammar.{Grammar}
+use Rattle.ix_model.specs.Answers.Answer.{TextAnswered}
+use Rattle.ix_model.specs.Answers.Outcome.{Outcome, status_of, output_of, message_of}
+use Rattle.ix_edge.specs.Told.{Told}
+use Rattle.ix_cli.specs.declared.output.Output.{Output}
+use Rattle.ix_cli.specs.Table.{IsReply}
+
+-- the status and the bytes are the outcome's, which has some bytes and no message
+pub record Shows (o : Outcome) (output : Output) : Type 0 where
+  pub status : output.status ≡ status_of o
+  pub bytes : output.bytes.items ≡ output_of o
+  pub some : 0 < length (output_of o)
+  pub silent : message_of o ≡ []
+
+-- it is what comes of the bytes of a text
+abbrev pub ShowsText : Grammar → List ℕ → Output → Type 0
+ShowsText g text output = (o : Outcome) × TextAnswered g text o × Shows o output
+
+-- it is what the table has for the words and the files
+abbrev pub ShowsReply : List (List ℕ) → Told → Output → Type 0
+ShowsReply words files output = (o : Outcome) × IsReply words files o × Shows o output
