@@ -14,21 +14,21 @@ use Rattle.ix_marks.specs.Telling.{names_of, piece_attributes}
 use Rattle.ix_dyn.specs.Items.{is_xmlns, is_xmlns_attribute, has_xmlns}
 
 -- some of them has P
-abbrev pub Some_of : {X : Type 0} → (X → Type 0) → List X → Type 0
-Some_of {X} P xs = (k : ℕ) × (x : X) × (slice_get xs k ≡ Some x) × P x
+abbrev pub HasOne : {X : Type 0} → (X → Type 0) → List X → Type 0
+HasOne {X} P xs = (k : ℕ) × (x : X) × (slice_get xs k ≡ Some x) × P x
 
 -- a test that tells whether P holds of one tells whether some of a list has it
 pub any_told : {X : Type 0} (test : X → Bool) (P : X → Type 0) → ((x : X) → MatchBool (test x) (P x) (¬ (P x))) → (xs : List X) →
-    MatchBool (list_any test xs) (Some_of P xs) (¬ (Some_of P xs))
+    MatchBool (list_any test xs) (HasOne P xs) (¬ (HasOne P xs))
 any_told test P told [] = λ h. absurd (cc h.2)
 any_told {X} test P told (x ∷ xs) = by (test x) (told x) (list_any test xs) (any_told test P told xs)
   where
-    by : (b : Bool) → MatchBool b (P x) (¬ (P x)) → (c : Bool) → MatchBool c (Some_of P xs) (¬ (Some_of P xs)) → MatchBool (b || c) (Some_of P (x ∷ xs)) (¬ (Some_of P (x ∷ xs)))
+    by : (b : Bool) → MatchBool b (P x) (¬ (P x)) → (c : Bool) → MatchBool c (HasOne P xs) (¬ (HasOne P xs)) → MatchBool (b || c) (HasOne P (x ∷ xs)) (¬ (HasOne P (x ∷ xs)))
     by true p c h = (0, x, refl, p)
     by false n true (k, y, e, p) = (suc k, y, e, p)
     by false n false h = none
       where
-        none : ¬ (Some_of P (x ∷ xs))
+        none : ¬ (HasOne P (x ∷ xs))
         none (zero, y, e, p) = n (subst P (sym {a = x} {b = y} (cc e)) p)
         none (suc k, y, e, p) = h (k, y, e, p)
 
@@ -36,7 +36,7 @@ any_told {X} test P told (x ∷ xs) = by (test x) (told x) (list_any test xs) (a
 pub xmlns_told : (names : List (List ℕ)) → MatchBool (list_any is_xmlns names) (HasXmlns names) (¬ (HasXmlns names))
 xmlns_told names = by (list_any is_xmlns names) (any_told is_xmlns (λ name. name ≡ codes "xmlns") (λ name. told_text name (codes "xmlns") (is_xmlns name) refl) names)
   where
-    by : (b : Bool) → MatchBool b (Some_of (λ name. name ≡ codes "xmlns") names) (¬ (Some_of (λ name. name ≡ codes "xmlns") names)) → MatchBool b (HasXmlns names) (¬ (HasXmlns names))
+    by : (b : Bool) → MatchBool b (HasOne (λ name. name ≡ codes "xmlns") names) (¬ (HasOne (λ name. name ≡ codes "xmlns") names)) → MatchBool b (HasXmlns names) (¬ (HasXmlns names))
     by true (k, name, e, p) = (k, e ∙ ap Some p)
     by false h = λ g. h (g.0, codes "xmlns", g.1, refl)
 

@@ -1,4 +1,5 @@
--- What a reader of the items finds, one item after the other, in numbers of names and in characters.
+-- What a reader of the items finds, one item after the other, in numbers of names and in characters; and what XML does not have.
+-- Sources: XML 1.0 (Fifth Edition), "Characters" and "Common Syntactic Constructs"; Namespaces in XML 1.0, "Declaring Namespaces".
 use Rattle.std.specs.Prelude.{ℕ, ◌<◌, ◌==◌, Bool, false, not, List, [], ◌∷◌, length, get_or, codes}
 use Rattle.std.specs.List.{AllByRecursion, flat_map, list_any}
 use Rattle.std.specs.Cmp.Lexicographic.{pointwise}

@@ -1,4 +1,5 @@
--- What stands in no element, by the items.
+-- What stands in no element, by the items: a depth goes along with them.
+-- Source: plain.
 use Rattle.std.specs.Prelude.{ℕ, zero, suc, ◌+◌, ◌-◌, List, [], ◌∷◌}
 use Rattle.ix_marks.specs.declared.item.Item.{Item}
 use Rattle.ix_marks.specs.declared.item.Item.TheVariants.{Begin, Close, Chars}

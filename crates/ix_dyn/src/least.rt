@@ -14,7 +14,7 @@ use crate::top::{attribute_at_top, not_one_element};
 use ix_marks::Marked;
 use ix_model::Plan;
 
-// E03 to E06: what is wrong with a name, an attribute or a character.
+// E03 to E06: the first that holds of names, attributes and characters.
 fn within(plan: &Plan, marked: &Marked) -> Option<DynRefusal>
     requires { AreIn plan.now.rules.names marked.now }
     ensures { result ≡ refusal_within plan.now.rules.names marked.now }
@@ -32,7 +32,7 @@ fn within(plan: &Plan, marked: &Marked) -> Option<DynRefusal>
     Some(DynRefusal::BadChar { code: code as u32 })
 }
 
-// The refusal by the lists.
+// All codes in their order.
 fn least(plan: &Plan, marked: &Marked) -> Option<DynRefusal>
     requires { AreIn plan.now.rules.names marked.now }
     ensures { result ≡ least_refusal plan.now.rules.names marked.now }
@@ -55,8 +55,8 @@ fn least(plan: &Plan, marked: &Marked) -> Option<DynRefusal>
 /// values, and not about names.
 ///
 /// The marked tree is one of this plan, whose names are distinct. It takes no memory. For each code the items are gone over at most
-/// once, each with the attributes of its element, and nothing calls itself, so trees may be of any depth. A repeated attribute was
-/// found when the tree was made.
+/// once, each with the attributes of its element and with its name, so the work grows with the document that would be written.
+/// Nothing calls itself, so trees may be of any depth. A repeated attribute was found when the tree was made.
 pub fn dynamic(plan: &Plan, marked: &Marked) -> Option<DynRefusal>
     requires there { AreIn plan.now.rules.names marked.now }
     requires distinct { AreDistinct plan.now.rules.names }

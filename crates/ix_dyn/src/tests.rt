@@ -113,43 +113,45 @@ fn refusal(alloc: Global, plan: &Plan, steps: &[Step]) -> Result<Option<DynRefus
     Ok(dynamic(plan, &tree))
 }
 
+// The walks of the table below: each gives one refusal, and the last gives none.
+fn walk(row: usize) -> &'static [Step]
+    ensures { AreStepsIn an_odd_plan result.now }
+{
+    match row {
+        0 => &[S_ATTRIBUTE, OUT, XMLNS, OUT],
+        1 => &[S, HYPHEN, OUT, OUT, S, OUT],
+        2 => &[S, OUT, BOTH],
+        3 => &[S, BOTH, HYPHEN, OUT, OUT],
+        4 => &[S, S, XMLNS, OUT, OUT, OUT],
+        5 => &[S, S_ATTRIBUTE, OUT, S_ATTRIBUTE, BOTH, OUT, OUT],
+        6 => &[S, S_ATTRIBUTE, BOTH, OUT, OUT],
+        _ => &[S, T, S, S_ATTRIBUTE, OUT, OUT, OUT],
+    }
+}
+
+const REFUSALS: [Option<DynRefusal>; 8] = [
+    Some(DynRefusal::AttributeAtTop { name: 0 }),
+    Some(DynRefusal::NotOneElement {
+        elements: 2,
+        chars: 0,
+    }),
+    Some(DynRefusal::NotOneElement {
+        elements: 1,
+        chars: 2,
+    }),
+    Some(DynRefusal::BadName { name: 1 }),
+    Some(DynRefusal::Xmlns),
+    Some(DynRefusal::SameAttribute { name: 0 }),
+    Some(DynRefusal::BadChar { code: 1 }),
+    None,
+];
+
 #[test]
 fn each_code_has_its_item(rt: HostRuntime) -> Result<(), Fail> {
     let alloc = rt.alloc();
     let plan = odd_plan(alloc)?;
-    let at_top = refusal(alloc, &plan, &[S_ATTRIBUTE, OUT, XMLNS, OUT])?;
-    assert_eq!(rt; at_top, Some(DynRefusal::AttributeAtTop { name: 0 }));
-    let two = refusal(alloc, &plan, &[S, HYPHEN, OUT, OUT, S, OUT])?;
-    assert_eq!(rt;
-        two,
-        Some(DynRefusal::NotOneElement {
-            elements: 2,
-            chars: 0
-        })
-    );
-    let beside = refusal(alloc, &plan, &[S, OUT, BOTH])?;
-    assert_eq!(rt;
-        beside,
-        Some(DynRefusal::NotOneElement {
-            elements: 1,
-            chars: 2
-        })
-    );
-    let name = refusal(alloc, &plan, &[S, BOTH, HYPHEN, OUT, OUT])?;
-    assert_eq!(rt; name, Some(DynRefusal::BadName { name: 1 }));
-    let xmlns = refusal(alloc, &plan, &[S, S, XMLNS, OUT, OUT, OUT])?;
-    assert_eq!(rt; xmlns, Some(DynRefusal::Xmlns));
-    let twice = refusal(
-        alloc,
-        &plan,
-        &[S, S_ATTRIBUTE, OUT, S_ATTRIBUTE, BOTH, OUT, OUT],
-    )?;
-    assert_eq!(rt; twice, Some(DynRefusal::SameAttribute { name: 0 }));
-    let char = refusal(alloc, &plan, &[S, S_ATTRIBUTE, BOTH, OUT, OUT])?;
-    assert_eq!(rt; char, Some(DynRefusal::BadChar { code: 1 }));
-    assert_eq!(rt;
-        refusal(alloc, &plan, &[S, T, S, S_ATTRIBUTE, OUT, OUT, OUT])?,
-        None
-    );
+    for (row, expected) in REFUSALS.iter().enumerate() {
+        assert_eq!(rt; refusal(alloc, &plan, walk(row))?, *expected);
+    }
     Ok(())
 }
