@@ -15,9 +15,12 @@ use Rattle.ix_model.specs.Documents.Dyn.{Refusal, Dyn, HasNoRefusal}
 use Rattle.ix_model.specs.Documents.Gives.{Givens, gives_root}
 use Rattle.ix_model.specs.Expansion.Parts.{Parts}
 use Rattle.ix_model.specs.Expansion.Planned.{IsPlanned}
+use Rattle.ix_closure_laws.specs.UsefulLaws.{HasUseful}
 use Rattle.ix_closure_laws.proofs.ClosedWithin.{desc_within}
 use Rattle.ix_edge.proofs.Decoded.{length-decoded}
 use Rattle.ix_offset_laws.specs.Furthest.{Furthest}
+use Rattle.ix_subtrees.specs.Entries.{entry_for}
+use Rattle.ix_subtrees.specs.Sets.{SetLists, IsSetOf}
 use Rattle.ix_engine.specs.PlanFor.{IsPlanFor}
 
 module _ (g : Grammar) (bytes : List ℕ) (plan : Parts) (is : IsPlanFor g bytes plan) where
@@ -39,3 +42,7 @@ module _ (g : Grammar) (bytes : List ℕ) (plan : Parts) (is : IsPlanFor g bytes
 pub furthest_within : (plan : Parts) → IsPlanned plan → (o : ℕ) → Furthest plan o → o ≤ length plan.text
 furthest_within plan planned o (inl h, _) = (desc_within plan planned h.0 h.1 o h.2).2
 furthest_within plan planned o (inr e, _) = omega (arith, e)
+
+-- where the set lists nothing, nothing is useful
+pub none_useful : (plan : Parts) (set : SetLists) → IsSetOf plan set → length set.ways ≡ 0 → HasUseful plan → ⊥
+none_useful plan set of none (sub, h) = let there = (of.ways (entry_for sub.slot sub.left sub.right sub.pivot)).1 h in omega (arith, there.1, none)

@@ -1,9 +1,6 @@
-ghost use Rattle.std.specs.Prelude.{◌≤◌, ◌<◌, List, ℕ, IfOk, IfErr, length};
+ghost use Rattle.std.specs.Prelude.{◌≡◌, ◌≤◌, ◌<◌, List, ℕ, IfOk, IfErr, length};
 ghost use Rattle.ix_model.specs.declared.grammar.Grammar.{Grammar as AGrammar};
 ghost use Rattle.ix_model.specs.Answers.Limits.{grammar_limit};
-ghost use Rattle.ix_model.specs.Derivations.Derives.{IsDerivation};
-ghost use Rattle.ix_model.specs.Derivations.Trees.{Tree};
-ghost use Rattle.ix_model.specs.Expansion.Planned.{IsPlanOf};
 ghost use Rattle.ix_model.specs.Grammars.Breach.{Conforming};
 ghost use Rattle.ix_model.specs.Grammars.Size.{size};
 ghost use Rattle.ix_offset_laws.specs.Furthest.{Furthest};
@@ -16,10 +13,11 @@ use crate::closing::{Closed, closed_of};
 use crate::outcome::{Outcome, ParseFault};
 use crate::planning::plan_of;
 use crate::refusing::refused;
-use ix_edge::{Place, decode, place};
+use ix_edge::{decode, place};
 use ix_marks::laws::names_are_distinct;
 use ix_model::{Grammar, Plan};
 use ix_offset_laws::laws::furthest_is_offset;
+use ix_subtrees::laws::derived_is_useful;
 use std::alloc::Global;
 
 const MOST: usize = 16_777_216;
@@ -85,20 +83,22 @@ fn parsed(alloc: Global, plan: Plan, closed: &Closed) -> Result<Outcome, ParseFa
 // How far a text could be read that has no derivation.
 fn failed(plan: &Plan, closed: &Closed) -> Outcome
     requires plan_for { (g : AGrammar) × (bytes : List ℕ) × IsPlanFor g bytes plan.now }
-    requires none { (g : AGrammar) (d : Tree) → IsPlanOf g plan.now → ¬ (IsDerivation g plan.now.text d) }
+    requires set { IsSetOf plan.now closed.now.set }
+    requires none { length closed.now.set.ways ≡ 0 }
     requires furthest { Furthest plan.now closed.now.furthest }
     requires counts { AreCounts plan.now closed.now.counts }
     ensures { (g : AGrammar) (bytes : List ℕ) → IsPlanFor g bytes plan.now → IsOutcome g bytes result }
 {
+    derived_is_useful();
     furthest_is_offset();
     // What holds of each plan.
     let _ = plan.slot_count();
     let offset = closed.furthest;
-    let Place { line, column } = place(plan.text(), offset);
+    let place = place(plan.text(), offset);
     Outcome::Failed {
         offset,
-        line,
-        column,
+        line: place.line,
+        column: place.column,
         counts: closed.counts,
     }
 }
