@@ -53,13 +53,16 @@ holds_both_ways : HoldsConforming both_ways grammars.two_ways
 unfolding is_blank is_name_start is_name_part general_category value_in general_category_rows chars encode
 holds_both_ways = (((omega arith, (both_ways, (refl, refl))), reads _ _ refl, shallow_both), two_ways_conforms)
 
-pub no_grammar_here : (text : List ℕ) → IsReply parse_g_t (holding [] text) no_grammar
+-- no bytes are no grammar
+pub nothing_refused : GrammarRefused [] no_grammar
 unfolding is_blank is_name_start is_name_part general_category value_in general_category_rows chars encode
-no_grammar_here text = inr (has_some_form, (codes "g", codes "t", [], 2, parses_g_t, refl, inl ((omega arith, ([], (refl, refl))), reads_none _ refl)))
+nothing_refused = ((omega arith, ([], (refl, refl))), reads_none _ refl)
+
+pub no_grammar_here : (text : List ℕ) → IsReply parse_g_t (holding [] text) no_grammar
+no_grammar_here text = inr (has_some_form, (codes "g", codes "t", [], 2, parses_g_t, refl, inl nothing_refused))
 
 pub no_grammar_alone : IsReply parse_g_t (without_text []) no_grammar
-unfolding is_blank is_name_start is_name_part general_category value_in general_category_rows chars encode
-no_grammar_alone = inr (has_some_form, (codes "g", codes "t", [], 2, parses_g_t, refl, inl ((omega arith, ([], (refl, refl))), reads_none _ refl)))
+no_grammar_alone = inr (has_some_form, (codes "g", codes "t", [], 2, parses_g_t, refl, inl nothing_refused))
 
 pub long_grammar : (bytes : List ℕ) → length bytes ≡ 1048577 → IsReply parse_g_t (holding bytes []) grammar_too_long
 long_grammar bytes e = inr (has_some_form, (codes "g", codes "t", bytes, 2, parses_g_t, refl, inl (omega (arith, e))))

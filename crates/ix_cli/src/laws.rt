@@ -1,6 +1,6 @@
 //! Laws of the definitions that the command's contract speaks of. Each function's contract is the law; the bodies are
 //! empty.
-ghost use Rattle.std.specs.Prelude.{◌≡◌, ◌++◌, ℕ, List, [], ◌∷◌, Some, Vec, IsUtf8, codes, length};
+ghost use Rattle.std.specs.Prelude.{◌≡◌, ℕ, List, [], ◌∷◌, Some, None, String, Vec, IsUtf8, codes, length, string_bytes};
 ghost use Rattle.std.specs.declared.alloc.Global.{Global};
 ghost use Rattle.ix_model.specs.declared.state.State.TheVariants.{Single, Ambiguous};
 ghost use Rattle.ix_model.specs.Answers.Outcome.{Outcome, no_form, no_grammar, text_too_long, text_not_utf8, failed, refused, document, message_of};
@@ -16,12 +16,14 @@ ghost use Rattle.ix_cli.specs.Examples.{holding, without_text, raised, no_count}
 ghost use Rattle.ix_cli.specs.Form.{HasForm, HasSomeForm};
 ghost use Rattle.ix_cli.specs.Laws.{ReplyIsOne, ReplyIsCaused};
 ghost use Rattle.ix_cli.specs.Lines.{memory_line, write_line};
+ghost use Rattle.ix_cli.specs.Loaded.{Holds, IsLoadFault, IsGrammarFault};
 ghost use Rattle.ix_cli.specs.Means.{of_refusal, of_fault};
 ghost use Rattle.ix_cli.specs.Refused.{IsRefused};
 ghost use Rattle.ix_cli.specs.Says.{Says};
 ghost use Rattle.ix_cli.specs.Shown.{Shows};
 ghost use Rattle.ix_cli.specs.Table.{IsReply};
 ghost use Rattle.ix_cli.specs.Unread.{IsUnread};
+ghost use Rattle.ix_cli.specs.Written.{IsWritten};
 
 /// The table has at most one answer for the words and the files.
 pub fn reply_is_one()
@@ -83,6 +85,27 @@ pub fn lengths_with_causes()
     ensures other_text { (bytes : List ℕ) → length bytes ≡ 16777216 → ¬ (IsUtf8 bytes) → IsCaused parse_g_t (holding one_way bytes) 5 }
 {}
 
+/// A name holds the bytes of its file, and no others. Files that tell nothing may hold any.
+pub fn files_that_hold()
+    ensures held { Holds (Some (holding one_way [])) (codes "g") (λ bytes. bytes ≡ one_way) }
+    ensures not_other { ¬ (Holds (Some (holding one_way [])) (codes "t") (λ bytes. bytes ≡ one_way)) }
+    ensures not_there { ¬ (Holds (Some (holding one_way [])) (codes "x") (λ bytes. bytes ≡ bytes)) }
+    ensures untold { Holds None (codes "x") (λ bytes. bytes ≡ one_way) }
+{}
+
+/// Memory may run out at any load. A file that could not be read is named, and its count rose.
+pub fn loads_that_fail()
+    ensures memory { IsLoadFault no_count no_count (codes "g") answer.Memory }
+    ensures file { (name : String Global) → string_bytes name ≡ codes "g" → IsLoadFault no_count (raised (codes "g")) (codes "g") (answer.Read name) }
+    ensures not_raised { (name : String Global) → ¬ (IsLoadFault no_count no_count (codes "g") (answer.Read name)) }
+    ensures not_named { (name : String Global) → string_bytes name ≡ codes "t" → ¬ (IsLoadFault no_count (raised (codes "g")) (codes "g") (answer.Read name)) }
+    ensures no_words { ¬ (IsLoadFault no_count (raised (codes "g")) (codes "g") answer.Words) }
+    ensures grammar { IsGrammarFault (Some (holding [] [])) no_count no_count (codes "g") (answer.Grammar refusal.NotIxml) }
+    ensures not_grammar { ¬ (IsGrammarFault (Some (holding one_way [])) no_count no_count (codes "g") (answer.Grammar refusal.NotIxml)) }
+    ensures not_memory { ¬ (IsGrammarFault None no_count no_count (codes "g") (answer.Grammar refusal.Memory)) }
+    ensures unread { (name : String Global) → string_bytes name ≡ codes "g" → IsGrammarFault None no_count (raised (codes "g")) (codes "g") (answer.Read name) }
+{}
+
 /// A grammar whose count rose is unread, a file that the words do not name never is. The text is unread only behind a
 /// grammar.
 pub fn files_that_are_unread()
@@ -120,6 +143,18 @@ pub fn outputs_of_an_outcome()
     ensures not_shorter { (v : Vec ℕ Global) → v.items ≡ codes "<S>a</S>" → ¬ (Shows (document (element_with (text_of (codes "a"))) Single) (record { status = 0; bytes = v })) }
     ensures failed { (v : Vec ℕ Global) → v.items ≡ codes "<fail xmlns:ixml=\"http://invisiblexml.org/NS\" ixml:state=\"failed\" offset=\"1\" line=\"1\" column=\"2\"/>\n" → Shows (failed 1 1 2) (record { status = 1; bytes = v }) }
     ensures no_output { (v : Vec ℕ Global) → ¬ (Shows no_grammar (record { status = 3; bytes = v })) }
+{}
+
+/// An output is written whole and without a line; or its front is, where the output's count rose; or nothing, with the line
+/// of want of memory.
+pub fn outputs_that_are_written()
+    ensures whole { (v : Vec ℕ Global) → v.items ≡ codes "<S/>" → IsWritten (Some []) (Some (codes "<S/>")) 0 0 (Some []) (Some []) 0 0 (record { status = 0; bytes = v }) 0 }
+    ensures no_line { (v : Vec ℕ Global) → ¬ (IsWritten (Some []) (Some (codes "<S/>")) 0 0 (Some []) (Some write_line) 0 0 (record { status = 0; bytes = v }) 0) }
+    ensures not_twice { (v : Vec ℕ Global) → v.items ≡ codes "<S/>" → ¬ (IsWritten (Some []) (Some (codes "<S/><S/>")) 0 0 (Some []) (Some []) 0 0 (record { status = 0; bytes = v }) 0) }
+    ensures front { (v : Vec ℕ Global) → v.items ≡ codes "<S/>" → IsWritten (Some []) (Some (codes "<S")) 0 1 (Some []) (Some write_line) 0 0 (record { status = 0; bytes = v }) 8 }
+    ensures not_risen { (v : Vec ℕ Global) → ¬ (IsWritten (Some []) (Some (codes "<S")) 0 0 (Some []) (Some write_line) 0 0 (record { status = 0; bytes = v }) 8) }
+    ensures nothing { (v : Vec ℕ Global) → IsWritten (Some []) (Some []) 0 0 (Some []) (Some memory_line) 0 0 (record { status = 0; bytes = v }) 9 }
+    ensures not_something { (v : Vec ℕ Global) → ¬ (IsWritten (Some []) (Some (codes "<")) 0 0 (Some []) (Some memory_line) 0 0 (record { status = 0; bytes = v }) 9) }
 {}
 
 /// Status and output are those of the table, and what a fault of the output leaves is the front of its document.

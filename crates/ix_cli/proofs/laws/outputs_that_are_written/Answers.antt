@@ -1,0 +1,32 @@
+use Rattle.std.proofs.Common.{◌≡◌, refl, sym, ap, ◌∙◌, length, take, arith}
+use mathlib.Core.Logic.{inl, inr}
+use Rattle.ix_cli.proofs.laws.outputs_that_are_written.Goals as goal
+
+pub returns-clause-whole : goal.returns-clause-whole
+returns-clause-whole c v e = inl (refl, sym e, refl)
+
+pub returns-clause-no_line : goal.returns-clause-no_line
+returns-clause-no_line c v (inl h) = absurd (cc h.2)
+returns-clause-no_line c v (inr (inl h)) = omega (arith, h.0)
+returns-clause-no_line c v (inr (inr h)) = omega (arith, h.0)
+
+pub returns-clause-not_twice : goal.returns-clause-not_twice
+returns-clause-not_twice c v e (inl h) = let f : 8 ≡ 4 = ap length (h.1 ∙ e) in omega (arith, f)
+returns-clause-not_twice c v e (inr (inl h)) = omega (arith, h.0)
+returns-clause-not_twice c v e (inr (inr h)) = omega (arith, h.0)
+
+pub returns-clause-front : goal.returns-clause-front
+returns-clause-front c v e = inr (inl (refl, omega arith, (2, sym (ap (take 2) e)), λ n. refl))
+
+pub returns-clause-not_risen : goal.returns-clause-not_risen
+returns-clause-not_risen c v (inl h) = omega (arith, h.0)
+returns-clause-not_risen c v (inr (inl h)) = omega (arith, h.1)
+returns-clause-not_risen c v (inr (inr h)) = omega (arith, h.0)
+
+pub returns-clause-nothing : goal.returns-clause-nothing
+returns-clause-nothing c v = inr (inr (refl, refl, λ n. refl))
+
+pub returns-clause-not_something : goal.returns-clause-not_something
+returns-clause-not_something c v (inl h) = omega (arith, h.0)
+returns-clause-not_something c v (inr (inl h)) = omega (arith, h.0)
+returns-clause-not_something c v (inr (inr h)) = absurd (cc h.1)
