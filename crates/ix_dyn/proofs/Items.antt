@@ -1,6 +1,6 @@
 -- The names and characters that come with the items are those of the pieces, and the names are there.
 use Rattle.std.proofs.Common.{◌≡◌, ◌<◌, refl, ap, ap₂, ◌∙◌, sym, ℕ, List, [], ◌∷◌, ◌++◌, length, map, get_or}
-use Rattle.std.specs.List.{AllByRecursion, flat_map}
+use Rattle.std.specs.List.{flat_map}
 use Rattle.std.proofs.lemmas.List.{map-append}
 use Rattle.ix_model.proofs.AllOf.{all_append}
 use Rattle.ix_marks.specs.declared.item.Item.{Item}

@@ -1,5 +1,5 @@
 -- The least refusal by the lists is the least code that holds of what is given.
-use Rattle.std.proofs.Common.{◌≡◌, ◌≤◌, ◌<◌, refl, ap, ap₂, sym, subst, ◌∙◌, ℕ, zero, suc, Bool, true, false, cond, List, [], ◌∷◌, ◌++◌, length, map, get_or, Option, Some, None, slice_get, arith}
+use Rattle.std.proofs.Common.{◌≡◌, ◌≤◌, ◌<◌, refl, ap, ap₂, sym, subst, ◌∙◌, ℕ, Bool, true, false, cond, List, [], ◌∷◌, ◌++◌, length, map, get_or, Option, Some, None, slice_get, arith}
 use Rattle.std.proofs.lemmas.Bool.{eqb-true}
 use Rattle.std.proofs.lemmas.List.{map-id}
 use Rattle.std.specs.Prelude.{◌==◌, ◌&&◌, IfSome, MatchOption}
@@ -8,7 +8,7 @@ use Rattle.std.specs.List.{find, flat_map, list_any}
 use Rattle.std.specs.Option.{option_map, option_or}
 use Rattle.ix_model.specs.Documents.Gives.{Givens}
 use Rattle.ix_model.specs.Documents.XmlNames.{is_xml_name, is_xml_char}
-use Rattle.ix_model.specs.Documents.Dyn.{Refusal, attribute_at_top, not_one_element, bad_name, attribute_xmlns, same_attribute, bad_character, refusal_number, attribute_names, content_names, value_characters, content_characters, content_attributes, all_names, all_characters, element_count, character_count, HasXmlns, Holds, Dyn, HasNoRefusal}
+use Rattle.ix_model.specs.Documents.Dyn.{Refusal, attribute_at_top, not_one_element, bad_name, attribute_xmlns, same_attribute, bad_character, refusal_number, attribute_names, content_names, content_characters, content_attributes, all_names, all_characters, element_count, character_count, HasXmlns, Holds, Dyn, HasNoRefusal}
 use Rattle.ix_model.specs.Firsts.{IsFirstOf}
 use Rattle.ix_marks.specs.declared.item.Attr.{Attr}
 use Rattle.ix_marks.specs.Counted.{run_length}
@@ -16,7 +16,7 @@ use Rattle.ix_marks.specs.InRange.{AreAttrsIn, AreIn}
 use Rattle.ix_marks.specs.Laws.{AreDistinct}
 use Rattle.ix_marks.specs.MarkedLists.{MarkedLists}
 use Rattle.ix_marks.specs.Meaning.{attribute_of, piece_of}
-use Rattle.ix_marks.specs.Pieces.{Attribute, Piece, attributes, pieces}
+use Rattle.ix_marks.specs.Pieces.{attributes, pieces}
 use Rattle.ix_marks.specs.Repeats.{repeat_among}
 use Rattle.ix_marks.specs.Standing.{StandsFor}
 use Rattle.ix_marks.specs.Telling.{names_of, values_of, piece_names, piece_characters, piece_attributes, elements_at, characters_at}
@@ -24,7 +24,7 @@ use Rattle.ix_marks.proofs.FirstRepeat.{repeat_tells}
 use Rattle.ix_marks.proofs.RepeatInRange.{repeat_is_in}
 use Rattle.ix_marks.proofs.Telling.{pieces_tell}
 use Rattle.ix_dyn.specs.declared.refusal.DynRefusal.{DynRefusal}
-use Rattle.ix_dyn.specs.declared.refusal.DynRefusal.TheVariants.{AttributeAtTop, NotOneElement, BadName, Xmlns, SameAttribute, BadChar}
+use Rattle.ix_dyn.specs.declared.refusal.DynRefusal.TheVariants.{NotOneElement, BadName, Xmlns, SameAttribute, BadChar}
 use Rattle.ix_dyn.specs.Items.{item_numbers, item_characters, is_bad_character, is_bad_number, is_xmlns, has_xmlns}
 use Rattle.ix_dyn.specs.Least.{top_refusal, count_refusal, name_refusal, xmlns_refusal, repeat_refusal, character_refusal, refusal_within, least_refusal}
 use Rattle.ix_dyn.specs.Refusals.{refusal_of, IsNameIn}

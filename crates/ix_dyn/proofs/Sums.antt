@@ -1,6 +1,6 @@
 -- Sums of what counts at the top.
-use Rattle.std.proofs.Common.{◌≡◌, ◌≤◌, ◌<◌, ◌+◌, ◌-◌, ap, ◌∙◌, refl, ℕ, zero, suc, List, [], ◌∷◌, length, drop, get_or, map, arith, length-drop}
-use Rattle.std.specs.List.{AllByRecursion, sum_by}
+use Rattle.std.proofs.Common.{◌≡◌, ◌≤◌, ◌<◌, ◌+◌, ◌-◌, ap, refl, ℕ, zero, suc, List, [], ◌∷◌, length, drop, get_or, map, arith, length-drop}
+use Rattle.std.specs.List.{sum_by}
 use Rattle.std.proofs.lemmas.List.{at_drop_more, length-take-le}
 use Rattle.std.proofs.lemmas.List.Sums.{sum_by-cons}
 use Rattle.ix_marks.specs.declared.item.Item.{Item}
