@@ -1,5 +1,5 @@
 -- Things of a kind have one number.
-use Rattle.std.proofs.Common.{◌≡◌, ℕ, zero, suc, ◌+◌, ◌≤◌, true, List, [], ◌∷◌, length, remove, count_by, Contains, Some, slice_get, refl, sym, ap₂, ◌∙◌, subst, inl, inr, arith}
+use Rattle.std.proofs.Common.{◌≡◌, ℕ, suc, ◌+◌, ◌≤◌, true, List, [], ◌∷◌, length, remove, Contains, Some, slice_get, refl, sym, ap₂, subst, inl, inr, arith}
 use Rattle.ix_model.specs.declared.counts.Counts.{Counts}
 use Rattle.ix_model.specs.Expansion.Parts.{Parts}
 use Rattle.ix_cluster.proofs.Members.{first_has, rest_has, nth_has}

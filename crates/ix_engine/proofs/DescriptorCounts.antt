@@ -1,6 +1,6 @@
 -- The descriptors among the facts of a closure, each once, and how many they are.
-use Rattle.std.proofs.Common.{◌≡◌, ℕ, zero, suc, ◌+◌, cond, true, false, List, [], ◌∷◌, length, count_by, Contains, Option, Some, None, slice_get, refl, sym, ap, ◌∙◌, subst, arith}
-use Rattle.std.specs.List.{filter_map, cons_option}
+use Rattle.std.proofs.Common.{◌≡◌, ℕ, zero, suc, List, [], ◌∷◌, length, count_by, Contains, Option, Some, None, slice_get, refl, sym, ap, ◌∙◌, subst, arith}
+use Rattle.std.specs.List.{filter_map}
 use Rattle.ix_model.specs.Expansion.Parts.{Parts}
 use Rattle.ix_model.specs.Closure.Closed as closed
 use Rattle.ix_cluster.specs.declared.fact.Fact.{Fact}

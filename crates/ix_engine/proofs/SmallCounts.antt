@@ -1,12 +1,11 @@
 -- The figures of `S: "a".` on `a` and on `b`, and a kind of one thing.
-use Rattle.std.proofs.Common.{◌≡◌, ◌⊎◌, ℕ, zero, suc, List, [], ◌∷◌, true, Some, None, codes, slice_get, refl, ap, sym, subst, inl, inr, arith}
+use Rattle.std.proofs.Common.{◌≡◌, ◌⊎◌, ℕ, zero, suc, [], ◌∷◌, true, Some, None, codes, slice_get, refl, ap, sym, subst, inl, inr, arith}
 use Rattle.ix_model.specs.declared.sub.Sub.{Sub}
-use Rattle.ix_model.specs.Closure.Closed.{Desc, Part}
+use Rattle.ix_model.specs.Closure.Closed.{Desc}
 use Rattle.ix_model.specs.Closure.Useful.{sub_at, Useful}
 use Rattle.ix_model.specs.Expansion.Planned.{IsPlanOf}
 use Rattle.ix_closure_laws.proofs.Reaching.{reached_part, useful_reached}
 use Rattle.ix_cluster.specs.declared.fact.Fact.TheVariants as fact
-use Rattle.ix_closure.specs.Examples.{a_called}
 use Rattle.ix_closure.proofs.Small.SmallStates.{b_closure}
 use Rattle.ix_examples.specs.SmallGrammars as grammars
 use Rattle.ix_examples.specs.SmallPlans.{only_a, a_by}

@@ -1,6 +1,5 @@
 -- How many things of a kind there are. It is this project's own.
 use Rattle.std.specs.Prelude.{◌≡◌, ℕ, List, length, Some, slice_get}
-use Rattle.std.specs.List.{Contains}
 
 -- the list has exactly the things of the kind, each once
 pub record Lists {A : Type 0} (P : A → Type 0) (xs : List A) : Type 0 where

@@ -1,6 +1,7 @@
 //! Laws and worked examples of the definitions. The contract is the law or the example, and the body is empty.
 
-ghost use Rattle.std.specs.Prelude.{◌≡◌, ◌≢◌, ℕ, List, [], ◌∷◌, length, codes};
+ghost use Rattle.std.specs.Prelude.{◌≡◌, ◌≢◌, ℕ, List, [], ◌∷◌, Some, length, codes};
+ghost use Rattle.ix_model.specs.declared.grammar.Mark.TheVariants.{Attribute};
 ghost use Rattle.ix_model.specs.declared.state.State.TheVariants.{Single, Ambiguous};
 ghost use Rattle.ix_model.specs.Answers.Outcome.{no_form, text_too_long, text_not_utf8, refused};
 ghost use Rattle.ix_model.specs.Documents.Dyn.{attribute_at_top, not_one_element, bad_name, attribute_xmlns, same_attribute, bad_character};
@@ -20,8 +21,6 @@ ghost use Rattle.ix_engine.specs.declared.outcome.DynFault.TheVariants as code;
 ghost use Rattle.ix_engine.specs.declared.outcome.Outcome.TheVariants as outcome;
 ghost use Rattle.ix_engine.specs.declared.outcome.ParseFault.TheVariants as fault;
 ghost use Rattle.ix_engine.specs.declared.refusal.Refusal.TheVariants.{FileTooLong, NotIxml, TooDeep};
-ghost use Rattle.std.specs.Prelude.{Some};
-ghost use Rattle.ix_model.specs.declared.grammar.Mark.TheVariants.{Attribute};
 
 /// No bytes at all are no grammar. They are neither too long nor too deep.
 pub fn no_bytes()

@@ -1,4 +1,4 @@
-use Rattle.std.proofs.Common.{◌≡◌, ap, refl, codes, [], ◌∷◌, length, arith}
+use Rattle.std.proofs.Common.{ap, refl, codes, arith}
 use Rattle.std.specs.Str.{chars}
 use lib.Utf8.{encode}
 use Rattle.ix_model.specs.declared.counts.Counts.{Counts}

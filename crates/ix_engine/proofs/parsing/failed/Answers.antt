@@ -1,4 +1,4 @@
-use Rattle.std.proofs.Common.{ap, sym, subst, length, List, ℕ, ◌≡◌, ◌∙◌, arith}
+use Rattle.std.proofs.Common.{ap, length, List, ℕ, ◌∙◌, arith}
 use Rattle.ix_model.specs.Answers.Places.{line_of, column_of}
 use Rattle.ix_model.specs.Derivations.Derives.{IsDerivation}
 use Rattle.ix_model.specs.Derivations.Trees.{Tree}
@@ -22,12 +22,11 @@ returns c = λ g bytes is.
     let offset = c.args.closed.now.furthest in
     let planned = c.slot_count.ensures.planned in
     let none : (d : Tree) → ¬ (IsDerivation g plan.text d) = λ d h.
-        none_useful plan c.args.closed.now.set c.requires.set c.requires.none ((c.derived_is_useful.ensures g plan is.plan_of planned).0 (d, h)) in
-    (
+    none_useful plan c.args.closed.now.set c.requires.set c.requires.none ((c.derived_is_useful.ensures g plan is.plan_of planned).0 (d, h)) in (
       answers_failed g bytes plan is offset c.place-place.result.line c.place-place.result.column none
-      ((c.furthest_is_offset.ensures g plan offset is.plan_of planned).0 c.requires.furthest)
-      (c.place-place.ensures.line ∙ ap (λ (s : List ℕ). line_of s offset) c.text.ensures)
-      (c.place-place.ensures.column ∙ ap (λ (s : List ℕ). column_of s offset) c.text.ensures),
+          ((c.furthest_is_offset.ensures g plan offset is.plan_of planned).0 c.requires.furthest)
+          (c.place-place.ensures.line ∙ ap (λ (s : List ℕ). line_of s offset) c.text.ensures)
+          (c.place-place.ensures.column ∙ ap (λ (s : List ℕ). column_of s offset) c.text.ensures),
       plan,
       record { plan_of = is.plan_of; text = is.text; counts_of = c.requires.counts },
     )
