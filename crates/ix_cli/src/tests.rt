@@ -1,6 +1,7 @@
 ghost use Rattle.std.specs.Prelude.{◌≡◌, IfOk, IsTrue};
 ghost use Rattle.ix_edge.specs.Entries.{names_differ};
 
+mod long;
 mod recorded;
 
 use crate::{Answer, message, run_alone};

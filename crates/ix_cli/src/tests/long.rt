@@ -1,0 +1,73 @@
+use super::{entries, words};
+use crate::run_alone;
+use ix_edge::{MemFiles, MemSink};
+use std::alloc::{AllocError, Global};
+use std::test::Fail;
+
+const FAILED: &[u8] =
+    b"<fail xmlns:ixml=\"http://invisiblexml.org/NS\" ixml:state=\"failed\" offset=\"0\" line=\"1\" column=\"1\"/>\n";
+
+const TOO_LONG: &[u8] = b"ixml: text longer than 16777216 bytes\n";
+
+// So many ones with a plus sign between them.
+fn sum(alloc: Global, ones: usize) -> Result<Vec<u8>, AllocError> {
+    let mut text = Vec::from_slice(alloc, b"1")?;
+    for _ in 1..ones {
+        text.extend_from_slice(b"+1")?;
+    }
+    Ok(text)
+}
+
+// Each row: a grammar, a long text, the status, how many bytes are written, the first of them, and what is said. The first
+// document is a tree a hundred thousand levels deep; the second and the third text are as long as a text may be, and longer.
+#[test]
+fn answers_long_texts(rt: HostRuntime) -> Result<(), Fail> {
+    let alloc = rt.alloc();
+    for (grammar, text, status, size, front, said) in [
+        (
+            b"S: S, \"a\"; .".as_slice(),
+            vec![in alloc; b'a'; 100_000]?,
+            0,
+            800_005,
+            b"<S><S><S>".as_slice(),
+            b"".as_slice(),
+        ),
+        (
+            b"S: \"a\".".as_slice(),
+            vec![in alloc; b'b'; 16_777_216]?,
+            1,
+            FAILED.len(),
+            FAILED,
+            b"".as_slice(),
+        ),
+        (
+            b"S: \"a\".".as_slice(),
+            vec![in alloc; b'b'; 16_777_217]?,
+            6,
+            0,
+            b"".as_slice(),
+            TOO_LONG,
+        ),
+        (
+            b"E: E, \"+\", E; \"1\".".as_slice(),
+            sum(alloc, 100)?,
+            0,
+            1_656,
+            b"<E xmlns:ixml=".as_slice(),
+            b"".as_slice(),
+        ),
+    ] {
+        let mut files = MemFiles::new(entries(alloc, grammar, &text)?, Vec::new(alloc));
+        let mut out = MemSink::new(alloc, 800_005, Vec::new(alloc), 0)?;
+        let mut msg = MemSink::new(alloc, 128, Vec::new(alloc), 0)?;
+        let words = words(alloc, "parse g t")?;
+        assert_eq!(rt;
+            run_alone(alloc, &words, &mut files, &mut out, &mut msg),
+            status
+        );
+        assert_eq!(rt; out.bytes().len(), size);
+        assert!(rt; out.bytes().starts_with(front));
+        assert_eq!(rt; msg.bytes(), said);
+    }
+    Ok(())
+}
