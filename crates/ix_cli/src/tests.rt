@@ -138,6 +138,12 @@ fn writes_a_document_or_a_failed_one(rt: HostRuntime) -> Result<(), Fail> {
         ),
         ("S: +\"<\", \"a\", +#26.", "a", 0, "<S>&lt;a&amp;</S>\n"),
         ("{a {b} c} S: \"a\". {end}", "a", 0, "<S>a</S>\n"),
+        (
+            "S: A, \"&\".\nA: \"x\"; \"y\".",
+            "y&",
+            0,
+            "<S><A>y</A>&amp;</S>\n",
+        ),
         ("S: b.. b.: \"x\".", "x", 0, "<S><b.>x</b.></S>\n"),
         (
             "E: E, \"+\", E; \"1\".",
