@@ -1,5 +1,5 @@
 -- Lists of a known length.
-use Rattle.std.proofs.Common.{◌≡◌, ℕ, zero, suc, ◌<◌, ◌≤◌, List, [], ◌∷◌, length, Some, slice_get, get_or, arith}
+use Rattle.std.proofs.Common.{◌≡◌, ◌<◌, ◌≤◌, List, [], ◌∷◌, length, Some, get_or, arith}
 
 -- three items that stand at 0, 1 and 2 of a list of three are the list
 pub three_items : {X : Type 0} (xs : List X) (a b c : X) → 3 ≤ length xs → length xs < 4 → a ≡ get_or xs 0 a → b ≡ get_or xs 1 b → c ≡ get_or xs 2 c → xs ≡ a ∷ b ∷ c ∷ []
@@ -8,12 +8,6 @@ three_items (x ∷ []) a b c low high p q r = absurd (omega (arith, low))
 three_items (x ∷ y ∷ []) a b c low high p q r = absurd (omega (arith, low))
 three_items (x ∷ y ∷ z ∷ []) a b c low high p q r = cc
 three_items (x ∷ y ∷ z ∷ w ∷ ws) a b c low high p q r = absurd (omega (arith, high))
-
--- what stands at a place is within the list
-pub get_below : {X : Type 0} (xs : List X) (n : ℕ) (x : X) → slice_get xs n ≡ Some x → n < length xs
-get_below [] n x e = absurd (cc e)
-get_below (y ∷ ys) zero x e = omega arith
-get_below (y ∷ ys) (suc n) x e = omega (arith, get_below ys n x e)
 
 pub some_is : {X : Type 0} {x y : X} → Some x ≡ Some y → x ≡ y
 some_is e = cc e

@@ -1,5 +1,4 @@
 use Rattle.std.proofs.Common.{◌≡◌, sym, ◌∙◌, ap, [], codes, refl, subst, arith}
-use Rattle.ix_engine.specs.declared.refusal.Refusal.TheVariants as refusal
 use Rattle.ix_model.specs.Answers.Answer.{GrammarRefused}
 use Rattle.ix_model.specs.Answers.Outcome.{no_grammar}
 use Rattle.ix_examples.specs.SmallAnswers.{one_way}
