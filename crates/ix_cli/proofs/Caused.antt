@@ -14,7 +14,7 @@ use Rattle.ix_answer_laws.proofs.Firsts.{in_order}
 use Rattle.ix_answer_laws.proofs.OneAnswer.{refused_or_held}
 use Rattle.ix_spelling_laws.proofs.ReadingComplete.{spelled_once}
 use Rattle.ix_tree_laws.proofs.Once.{first_is_one}
-use Rattle.ix_cli.specs.Causes.{IsNoGrammar, IsOther, GivesDocument, GivesNothing, GivesNoDocument, OfGrammar, OfText, IsNotUtf8, IsCaused}
+use Rattle.ix_cli.specs.Causes.{IsNoGrammar, IsUndecodable, GivesDocument, GivesNothing, GivesNoDocument, OfGrammar, OfText, IsNotUtf8, IsCaused}
 use Rattle.ix_cli.specs.Form.{HasForm, HasSomeForm}
 use Rattle.ix_cli.specs.Table.{IsReply}
 use Rattle.ix_cli.proofs.Forms.{names, one_form}
@@ -37,7 +37,7 @@ no_grammar_held : (bytes : List ℕ) (g : Grammar) → IsNoGrammar bytes → Hol
 no_grammar_held bytes g (inl l) h = omega (arith, l, h.0.0.0)
 no_grammar_held bytes g (inr n) h = n.1 g h
 
-no_grammar_other : (bytes : List ℕ) → IsNoGrammar bytes → IsOther grammar_limit bytes → ⊥
+no_grammar_other : (bytes : List ℕ) → IsNoGrammar bytes → IsUndecodable grammar_limit bytes → ⊥
 no_grammar_other bytes (inl l) h = omega (arith, l, h.0)
 no_grammar_other bytes (inr n) h = h.1 n.0.1
 
@@ -121,29 +121,29 @@ module _ (words : List (List ℕ)) (files : Told) where
   none_less (by_document h) (by_no_form l) less = l (form_of_text GivesDocument h)
   none_less (by_document h) (by_no_grammar l) less = grammar_and_text IsNoGrammar GivesDocument no_grammar_held l h
   none_less (by_document h) (by_no_document l) less = two_texts GivesDocument GivesNoDocument is_one h l
-  none_less (by_document h) (by_not_utf8 (inl l)) less = grammar_and_text (IsOther grammar_limit) GivesDocument (λ b g p c. p.1 c.0.0.1) l h
-  none_less (by_document h) (by_not_utf8 (inr l)) less = two_texts GivesDocument (λ g s. IsOther text_limit s) (λ g s p q. q.1 p.0.1) h l
+  none_less (by_document h) (by_not_utf8 (inl l)) less = grammar_and_text (IsUndecodable grammar_limit) GivesDocument (λ b g p c. p.1 c.0.0.1) l h
+  none_less (by_document h) (by_not_utf8 (inr l)) less = two_texts GivesDocument (λ g s. IsUndecodable text_limit s) (λ g s p q. q.1 p.0.1) h l
   none_less (by_document h) (by_too_long l) less = two_texts GivesDocument (λ g s. text_limit < length s) (λ g s p q. omega (arith, p.0.0, q)) h l
   none_less (by_no_derivation h) (by_no_form l) less = l (form_of_text GivesNothing h)
   none_less (by_no_derivation h) (by_no_grammar l) less = grammar_and_text IsNoGrammar GivesNothing no_grammar_held l h
   none_less (by_no_derivation h) (by_no_document l) less = two_texts GivesNothing GivesNoDocument is_refused h l
-  none_less (by_no_derivation h) (by_not_utf8 (inl l)) less = grammar_and_text (IsOther grammar_limit) GivesNothing (λ b g p c. p.1 c.0.0.1) l h
-  none_less (by_no_derivation h) (by_not_utf8 (inr l)) less = two_texts GivesNothing (λ g s. IsOther text_limit s) (λ g s p q. q.1 p.0.1) h l
+  none_less (by_no_derivation h) (by_not_utf8 (inl l)) less = grammar_and_text (IsUndecodable grammar_limit) GivesNothing (λ b g p c. p.1 c.0.0.1) l h
+  none_less (by_no_derivation h) (by_not_utf8 (inr l)) less = two_texts GivesNothing (λ g s. IsUndecodable text_limit s) (λ g s p q. q.1 p.0.1) h l
   none_less (by_no_derivation h) (by_too_long l) less = two_texts GivesNothing (λ g s. text_limit < length s) (λ g s p q. omega (arith, p.0.0, q)) h l
   none_less (by_no_form h) (by_no_grammar l) less = h (form_of_grammar IsNoGrammar l)
   none_less (by_no_form h) (by_no_document l) less = h (form_of_text GivesNoDocument l)
-  none_less (by_no_form h) (by_not_utf8 (inl l)) less = h (form_of_grammar (IsOther grammar_limit) l)
-  none_less (by_no_form h) (by_not_utf8 (inr l)) less = h (form_of_text (λ g s. IsOther text_limit s) l)
+  none_less (by_no_form h) (by_not_utf8 (inl l)) less = h (form_of_grammar (IsUndecodable grammar_limit) l)
+  none_less (by_no_form h) (by_not_utf8 (inr l)) less = h (form_of_text (λ g s. IsUndecodable text_limit s) l)
   none_less (by_no_form h) (by_too_long l) less = h (form_of_text (λ g s. text_limit < length s) l)
   none_less (by_no_grammar h) (by_no_document l) less = grammar_and_text IsNoGrammar GivesNoDocument no_grammar_held h l
-  none_less (by_no_grammar h) (by_not_utf8 (inl l)) less = two_grammars IsNoGrammar (IsOther grammar_limit) no_grammar_other h l
-  none_less (by_no_grammar h) (by_not_utf8 (inr l)) less = grammar_and_text IsNoGrammar (λ g s. IsOther text_limit s) no_grammar_held h l
+  none_less (by_no_grammar h) (by_not_utf8 (inl l)) less = two_grammars IsNoGrammar (IsUndecodable grammar_limit) no_grammar_other h l
+  none_less (by_no_grammar h) (by_not_utf8 (inr l)) less = grammar_and_text IsNoGrammar (λ g s. IsUndecodable text_limit s) no_grammar_held h l
   none_less (by_no_grammar h) (by_too_long l) less = grammar_and_text IsNoGrammar (λ g s. text_limit < length s) no_grammar_held h l
-  none_less (by_no_document h) (by_not_utf8 (inl l)) less = grammar_and_text (IsOther grammar_limit) GivesNoDocument (λ b g p c. p.1 c.0.0.1) l h
-  none_less (by_no_document h) (by_not_utf8 (inr l)) less = two_texts GivesNoDocument (λ g s. IsOther text_limit s) (λ g s p q. q.1 p.0.1) h l
+  none_less (by_no_document h) (by_not_utf8 (inl l)) less = grammar_and_text (IsUndecodable grammar_limit) GivesNoDocument (λ b g p c. p.1 c.0.0.1) l h
+  none_less (by_no_document h) (by_not_utf8 (inr l)) less = two_texts GivesNoDocument (λ g s. IsUndecodable text_limit s) (λ g s p q. q.1 p.0.1) h l
   none_less (by_no_document h) (by_too_long l) less = two_texts GivesNoDocument (λ g s. text_limit < length s) (λ g s p q. omega (arith, p.0.0, q)) h l
-  none_less (by_not_utf8 (inl h)) (by_too_long l) less = grammar_and_text (IsOther grammar_limit) (λ g s. text_limit < length s) (λ b g p c. p.1 c.0.0.1) h l
-  none_less (by_not_utf8 (inr h)) (by_too_long l) less = two_texts (λ g s. IsOther text_limit s) (λ g s. text_limit < length s) (λ g s p q. omega (arith, p.0, q)) h l
+  none_less (by_not_utf8 (inl h)) (by_too_long l) less = grammar_and_text (IsUndecodable grammar_limit) (λ g s. text_limit < length s) (λ b g p c. p.1 c.0.0.1) h l
+  none_less (by_not_utf8 (inr h)) (by_too_long l) less = two_texts (λ g s. IsUndecodable text_limit s) (λ g s. text_limit < length s) (λ g s p q. omega (arith, p.0, q)) h l
   none_less (by_too_long h) (by_document l) less = omega (arith, less)
   none_less w v less = omega (arith, less)
 

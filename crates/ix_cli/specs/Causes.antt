@@ -21,8 +21,8 @@ abbrev pub IsNoGrammar : List ℕ → Type 0
 IsNoGrammar bytes = (grammar_limit < length bytes) ⊎ (IsText grammar_limit bytes × ((g : Grammar) → ¬ (HoldsConforming bytes g)))
 
 -- they are not too many for the limit, and not UTF-8
-abbrev pub IsOther : ℕ → List ℕ → Type 0
-IsOther limit bytes = (length bytes ≤ limit) × ¬ (IsUtf8 bytes)
+abbrev pub IsUndecodable : ℕ → List ℕ → Type 0
+IsUndecodable limit bytes = (length bytes ≤ limit) × ¬ (IsUtf8 bytes)
 
 -- ---- of a conforming grammar and the bytes of a text
 
@@ -52,7 +52,7 @@ module _ (words : List (List ℕ)) (files : Told) where
 
   -- the grammar is not UTF-8, or the text is not
   abbrev pub IsNotUtf8 : Type 0
-  IsNotUtf8 = OfGrammar (IsOther grammar_limit) ⊎ OfText (λ g s. IsOther text_limit s)
+  IsNotUtf8 = OfGrammar (IsUndecodable grammar_limit) ⊎ OfText (λ g s. IsUndecodable text_limit s)
 
   -- each status from 0 to 6 is this one exactly where its cause holds
   pub record IsCaused (status : ℕ) : Type 0 where
