@@ -6,8 +6,8 @@ use Rattle.ix_cluster.proofs.Members.{first_has, rest_has, nth_has}
 use Rattle.ix_closure.proofs.Lists.ListCounts.{count_all, count_remove}
 use Rattle.ix_closure.proofs.Lists.ListMembers.{place_in, taken_or_left}
 use Rattle.ix_closure.proofs.Lists.OnceEach.{IsOnceEach}
-use Rattle.ix_engine.specs.Counting.{Lists, HasCount}
-use Rattle.ix_engine.specs.Parsed.{AreCounts}
+use Rattle.ix_model.specs.Closure.Counting.{Lists, HasCount}
+use Rattle.ix_model.specs.Closure.Figures.{AreCounts}
 
 module _ {X : Type 0} where
   -- where no two places have the same, each stands once

@@ -13,8 +13,8 @@ use Rattle.ix_cluster.proofs.Members.{nth_has}
 use Rattle.ix_closure.specs.Closure.{IsClosure}
 use Rattle.ix_closure.proofs.Lists.ListMembers.{place_in, filter_has, filter_from}
 use Rattle.ix_closure.proofs.Lists.OnceEach.{IsOnceEach, once_distinct, once_filter}
-use Rattle.ix_engine.specs.Counting.{Lists, HasCount}
-use Rattle.ix_engine.specs.Parsed.{Dot}
+use Rattle.ix_model.specs.Closure.Counting.{Lists, HasCount}
+use Rattle.ix_model.specs.Closure.Figures.{Dot}
 
 module _ {X : Type 0} where
   -- where each stands once, no two places have the same

@@ -12,9 +12,9 @@ use Rattle.ix_examples.specs.SmallPlans.{only_a, a_by}
 use Rattle.ix_examples.proofs.SmallClosures.{desc_0, desc_1, desc_a, part_a, no_part_b}
 use Rattle.ix_examples.proofs.SmallPlans.{planned_a, planned_b}
 use Rattle.ix_worked_examples.proofs.SmallRules.{plan_of_a}
-use Rattle.ix_engine.specs.Counting.{Lists}
+use Rattle.ix_model.specs.Closure.Counting.{Lists}
 use Rattle.ix_engine.specs.Examples.{a_counts, b_counts}
-use Rattle.ix_engine.specs.Parsed.{Dot, AreCounts}
+use Rattle.ix_model.specs.Closure.Figures.{Dot, AreCounts}
 use Rattle.ix_engine.proofs.DescriptorCounts.{descriptors_counted}
 
 -- ---- one thing

@@ -12,7 +12,7 @@ use Rattle.ix_subtrees.specs.declared.entry.Span.{Span}
 use Rattle.ix_subtrees.specs.declared.entry.Entry.{Entry}
 use Rattle.ix_subtrees.specs.Entries.{entry_for, entry_at, IsSpanBefore, IsBefore}
 use Rattle.ix_subtrees.specs.Sets.{SetLists, IsSetOf, sub_of_entry}
-use Rattle.ix_engine.specs.Counting.{Lists, HasCount}
+use Rattle.ix_model.specs.Closure.Counting.{Lists, HasCount}
 
 span_not_before : (a : Span) → IsSpanBefore a a → ⊥
 span_not_before a (inl h) = omega (arith, h)

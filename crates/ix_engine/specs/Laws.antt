@@ -2,7 +2,7 @@
 use Rattle.std.specs.Prelude.{◌≡◌}
 use Rattle.ix_model.specs.declared.counts.Counts.{Counts}
 use Rattle.ix_model.specs.Expansion.Parts.{Parts}
-use Rattle.ix_engine.specs.Parsed.{AreCounts}
+use Rattle.ix_model.specs.Closure.Figures.{AreCounts}
 
 -- no plan has two figures
 abbrev pub CountsAreOne : Type 0

@@ -1,6 +1,5 @@
 pub mod Answers
 pub mod Compiled
-pub mod Counting
 pub mod Examples
 pub mod Faults
 pub mod Laws

@@ -6,7 +6,7 @@ ghost use Rattle.ix_cluster.specs.declared.limits.TheConstants.{BANK_LIMIT};
 ghost use Rattle.ix_closure.specs.Closure.{IsClosure};
 ghost use Rattle.ix_offset_laws.specs.Furthest.{Furthest};
 ghost use Rattle.ix_subtrees.specs.Sets.{IsSetOf};
-ghost use Rattle.ix_engine.specs.Parsed.{AreCounts};
+ghost use Rattle.ix_model.specs.Closure.Figures.{AreCounts};
 
 use ix_closure::Core;
 use ix_closure::laws::closure_lists_parts;

@@ -5,7 +5,8 @@ ghost use Rattle.ix_model.specs.Grammars.Breach.{Conforming};
 ghost use Rattle.ix_model.specs.Grammars.Size.{size};
 ghost use Rattle.ix_offset_laws.specs.Furthest.{Furthest};
 ghost use Rattle.ix_subtrees.specs.Sets.{IsSetOf};
-ghost use Rattle.ix_engine.specs.Parsed.{AreCounts, IsOutcome, IsFault};
+ghost use Rattle.ix_model.specs.Closure.Figures.{AreCounts};
+ghost use Rattle.ix_engine.specs.Parsed.{IsOutcome, IsFault};
 ghost use Rattle.ix_engine.specs.PlanFor.{IsPlanFor};
 
 use crate::choosing::{first_marked, state_of};

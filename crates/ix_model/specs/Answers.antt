@@ -5,3 +5,4 @@ pub mod Decoding
 pub mod Limits
 pub mod Outcome
 pub mod Places
+pub mod Sample

@@ -1,14 +1,18 @@
 -- What a command answers, where the files that it names hold what a map tells: the table of its outcomes, each with all that it comes from.
--- The first that applies is the answer: each says that those before it do not. What `sample` answers is not said here.
+-- The first that applies is the answer: each says that those before it do not.
 -- Source: Invisible XML 1.0, "Parsing" and "Conformance"; the limits, the order and the statuses are this project's own.
 use Rattle.std.specs.Prelude.{◌≡◌, ◌⊎◌, ℕ, ◌<◌, ◌≤◌, List, length, Option, Some, IsUtf8}
 use Rattle.std.specs.Str.Lossy.{utf8_valid_len}
 use Rattle.ix_model.specs.declared.grammar.Grammar.{Grammar}
+use Rattle.ix_model.specs.declared.state.State.{State}
 use Rattle.ix_model.specs.declared.state.State.TheVariants.{Single, Ambiguous as Several}
+use Rattle.ix_model.specs.Closure.Figures.{IsCounted}
+use Rattle.ix_model.specs.Expansion.Parts.{Parts}
 use Rattle.ix_model.specs.Derivations.Trees.{Tree}
 use Rattle.ix_model.specs.Derivations.Derives.{IsDerivation, Ambiguous}
 use Rattle.ix_model.specs.Derivations.Order.{First}
-use Rattle.ix_model.specs.Documents.Gives.{gives_root}
+use Rattle.ix_model.specs.Documents.Gives.{Givens, gives_root}
+use Rattle.ix_model.specs.Documents.Xml.{xml}
 use Rattle.ix_model.specs.Answers.Limits.{grammar_limit, text_limit, depth_limit}
 use Rattle.ix_model.specs.Answers.Decoding.{decoded}
 use Rattle.ix_model.specs.Spelling.Spells.{Spells}
@@ -17,8 +21,9 @@ use Rattle.ix_model.specs.Grammars.Breach.{Fault, Breach, LeastBreach}
 use Rattle.ix_model.specs.Documents.Dyn.{Dyn, HasNoRefusal}
 use Rattle.ix_model.specs.Derivations.Offset.{Offset}
 use Rattle.ix_model.specs.Answers.Places.{line_of, column_of}
-use Rattle.ix_model.specs.Answers.CommandLine.{parse, check, IsCommand, HasNoForm}
-use Rattle.ix_model.specs.Answers.Outcome.{Outcome, no_form, grammar_too_long, grammar_not_utf8, no_grammar, too_deep, not_conforming, conforms, text_too_long, text_not_utf8, failed, refused, document, status_of, output_of, message_of}
+use Rattle.ix_model.specs.Answers.CommandLine.{parse, check, sample, IsCommand, HasNoForm}
+use Rattle.ix_model.specs.Answers.Sample.{sample_grammar, sample_text}
+use Rattle.ix_model.specs.Answers.Outcome.{Outcome, no_form, grammar_too_long, grammar_not_utf8, no_grammar, too_deep, not_conforming, conforms, text_too_long, text_not_utf8, failed, refused, document, summarised, status_of, output_of, message_of}
 
 -- the bytes are UTF-8, and not more than the limit
 abbrev pub IsText : ℕ → List ℕ → Type 0
@@ -56,6 +61,14 @@ module _ (g : Grammar) where
   TextAnswered bytes (text_not_utf8 valid) = (length bytes ≤ text_limit) × ¬ (IsUtf8 bytes) × (valid ≡ utf8_valid_len bytes)
   TextAnswered bytes outcome = IsText text_limit bytes × Parsed (decoded bytes) outcome
 
+  -- what comes of the bytes of a text where its figures are asked for: those of its document, or what it has in place of one
+  abbrev pub Measured : List ℕ → Outcome → Type 0
+  Measured bytes (document gs state) = ⊥
+  Measured bytes (summarised text counts output) =
+      (gs : Givens) × (state : State) × TextAnswered bytes (document gs state) × (plan : Parts) × IsCounted g (decoded bytes) plan counts
+      × (text ≡ length bytes) × (output ≡ length (xml gs state))
+  Measured bytes outcome = TextAnswered bytes outcome
+
 module _ (words : List (List ℕ)) (map : List ℕ → Option (List ℕ)) where
   -- the words ask for `check`: the grammar conforms, or it is refused
   abbrev pub CheckAnswered : Outcome → Type 0
@@ -69,9 +82,14 @@ module _ (words : List (List ℕ)) (map : List ℕ → Option (List ℕ)) where
       GrammarRefused bytes outcome
       ⊎ ((g : Grammar) × HoldsConforming bytes g × (s : List ℕ) × (map text ≡ Some s) × TextAnswered g s outcome))
 
+  -- the words ask for `sample`: the figures of its text under its grammar; no file is looked at
+  abbrev pub SampleAnswered : Outcome → Type 0
+  SampleAnswered outcome =
+      (lines workers : ℕ) × IsCommand words (sample lines workers) × (g : Grammar) × HoldsConforming sample_grammar g × Measured g (sample_text lines) outcome
+
   -- what comes of the words
   abbrev pub Answered : Outcome → Type 0
-  Answered outcome = (HasNoForm words × (outcome ≡ no_form)) ⊎ (CheckAnswered outcome ⊎ ParseAnswered outcome)
+  Answered outcome = (HasNoForm words × (outcome ≡ no_form)) ⊎ (CheckAnswered outcome ⊎ (ParseAnswered outcome ⊎ SampleAnswered outcome))
 
   -- the status, the output and the message, which is empty where there is none
   abbrev pub Answer : (status : ℕ) (output message : List ℕ) → Type 0

@@ -2,11 +2,13 @@
 -- Source: this project's own.
 use Rattle.std.specs.Prelude.{ℕ, false, List, [], ◌∷◌, ◌++◌, Option, Some, None, codes, decimal}
 use Rattle.std.specs.Fmt.{digits}
+use Rattle.ix_model.specs.declared.counts.Counts.{Counts}
 use Rattle.ix_model.specs.declared.state.State.{State}
 use Rattle.ix_model.specs.Documents.Gives.{Givens}
 use Rattle.ix_model.specs.Documents.Xml.{xml, name_bytes}
 use Rattle.ix_model.specs.Documents.FailedXml.{failed_xml}
 use Rattle.ix_model.specs.Grammars.Breach.{Fault, version, code_point, range, class, undefined, duplicate}
+use Rattle.ix_model.specs.Answers.Sample.{summary_of}
 use Rattle.ix_model.specs.Documents.Dyn.{Refusal, attribute_at_top, not_one_element, bad_name, attribute_xmlns, same_attribute, bad_character}
 
 pub data Outcome : Type 0 where
@@ -34,6 +36,8 @@ pub data Outcome : Type 0 where
   refused : Refusal → Outcome
   -- the document, by what the root gives
   document : Givens → State → Outcome
+  -- the figures of a text of so many bytes, with a document of so many bytes
+  summarised : (text : ℕ) (counts : Counts) (output : ℕ) → Outcome
 
 -- the exit status
 abbrev pub status_of : Outcome → ℕ
@@ -49,12 +53,14 @@ status_of (text_not_utf8 valid) = 5
 status_of (failed offset line column) = 1
 status_of (refused code) = 4
 status_of (document gs state) = 0
+status_of (summarised text counts output) = 0
 
 -- the bytes of the output
 abbrev pub output_of : Outcome → List ℕ
 output_of conforms = codes "ok\n"
 output_of (failed offset line column) = failed_xml offset line column
 output_of (document gs state) = xml gs state
+output_of (summarised text counts output) = summary_of text counts output
 output_of _ = []
 
 -- ---- messages
@@ -81,7 +87,7 @@ refusal_text attribute_xmlns = codes "E04: attribute xmlns"
 refusal_text (same_attribute name) = codes "E05: attribute " ++ (name_bytes name ++ codes " twice")
 refusal_text (bad_character c) = codes "E06: character #" ++ (hexadecimal c ++ codes " is not allowed in XML")
 
--- what is said of an outcome; of a document, of a failed one and of a grammar that conforms nothing is
+-- what is said of an outcome; of a document, of a failed one, of figures and of a grammar that conforms nothing is
 abbrev pub text_of : Outcome → Option (List ℕ)
 text_of no_form = Some (codes "use parse GRAMMAR TEXT [--workers N], check GRAMMAR or sample N [--workers N]")
 text_of grammar_too_long = Some (codes "G08: grammar longer than 1048576 bytes")
@@ -95,6 +101,7 @@ text_of (text_not_utf8 valid) = Some (codes "text is not UTF-8 after " ++ (decim
 text_of (failed offset line column) = None
 text_of (refused code) = Some (refusal_text code)
 text_of (document gs state) = None
+text_of (summarised text counts output) = None
 
 -- the message: the program's name, what is said, and a line feed; or nothing
 abbrev pub line_with : Option (List ℕ) → List ℕ
