@@ -3,10 +3,12 @@ use Rattle.std.proofs.Common.{◌≡◌, ◌⊎◌, refl, ap, sym, subst, ◌∙
 use mathlib.Core.Logic.{inl, inr}
 use Rattle.ix_model.specs.declared.grammar.Grammar.{Grammar}
 use Rattle.ix_model.specs.declared.state.State.TheVariants.{Single, Ambiguous}
-use Rattle.ix_model.specs.Answers.Answer.{HoldsConforming, GrammarRefused, TextAnswered}
+use Rattle.ix_model.specs.Answers.Answer.{HoldsConforming, GrammarRefused, TextAnswered, Measured}
+use Rattle.ix_model.specs.Answers.CommandLine.{Command, parse, check, sample, IsCommand, HasNoForm}
 use Rattle.ix_model.specs.Answers.Decoding.{decoded}
 use Rattle.ix_model.specs.Answers.Limits.{grammar_limit, text_limit}
-use Rattle.ix_model.specs.Answers.Outcome.{Outcome, grammar_too_long, grammar_not_utf8, no_grammar, too_deep, not_conforming, text_too_long, text_not_utf8, failed, refused, document, status_of}
+use Rattle.ix_model.specs.Answers.Sample.{sample_grammar}
+use Rattle.ix_model.specs.Answers.Outcome.{Outcome, grammar_too_long, grammar_not_utf8, no_grammar, too_deep, not_conforming, text_too_long, text_not_utf8, failed, refused, document, summarised, status_of}
 use Rattle.ix_model.specs.Documents.Dyn.{Dyn, HasNoRefusal}
 use Rattle.ix_model.specs.Documents.Gives.{gives_root}
 use Rattle.ix_edge.specs.Told.{Told, held}
@@ -14,11 +16,11 @@ use Rattle.ix_answer_laws.proofs.Firsts.{in_order}
 use Rattle.ix_answer_laws.proofs.OneAnswer.{refused_or_held}
 use Rattle.ix_spelling_laws.proofs.ReadingComplete.{spelled_once}
 use Rattle.ix_tree_laws.proofs.Once.{first_is_one}
-use Rattle.ix_cli.specs.Causes.{IsNoGrammar, IsUndecodable, GivesDocument, GivesNothing, GivesNoDocument, OfGrammar, OfText, IsNotUtf8, IsCaused}
-use Rattle.ix_cli.specs.Form.{HasForm, HasSomeForm}
+use Rattle.ix_cli.specs.Causes.{IsNoGrammar, IsUndecodable, GivesDocument, GivesNothing, GivesNoDocument, Parses, OfGrammar, OfText, IsChecked, IsNotUtf8, IsCaused}
+use Rattle.ix_cli.specs.Named.{HasCommand, ReadsGrammar}
 use Rattle.ix_cli.specs.Table.{IsReply}
-use Rattle.ix_cli.proofs.Forms.{names, one_form}
-use Rattle.ix_cli.proofs.Lists.{some_is}
+use Rattle.ix_answer_laws.proofs.Commands.{command_is_one}
+use Rattle.ix_cli.proofs.Options.{some_is}
 
 -- ---- of one grammar and one text at most one holds
 
@@ -41,41 +43,77 @@ no_grammar_other : (bytes : List ℕ) → IsNoGrammar bytes → IsUndecodable gr
 no_grammar_other bytes (inl l) h = omega (arith, l, h.0)
 no_grammar_other bytes (inr n) h = h.1 n.0.1
 
+-- ---- a command reads one file as its grammar, and parses one text
+
+module _ (files : Told) where
+  held_once : (name bytes more : List ℕ) → held files name ≡ Some bytes → held files name ≡ Some more → more ≡ bytes
+  held_once name bytes more e f = some_is (sym f ∙ e)
+
+  one_held : (command : Command) (name bytes other more : List ℕ) → ReadsGrammar command name → held files name ≡ Some bytes → ReadsGrammar command other → held files other ≡ Some more → more ≡ bytes
+  one_held (parse grammar text workers) name bytes other more r e q f = held_once grammar bytes more (subst (λ n. held files n ≡ Some bytes) r e) (subst (λ n. held files n ≡ Some more) q f)
+  one_held (check grammar) name bytes other more r e q f = held_once grammar bytes more (subst (λ n. held files n ≡ Some bytes) r e) (subst (λ n. held files n ≡ Some more) q f)
+  one_held (sample lines workers) name bytes other more r e q f = absurd r
+
+  -- what is parsed is parsed under the grammar that was read
+  grammar_of : (command : Command) (name bytes : List ℕ) (g : Grammar) (s : List ℕ) → ReadsGrammar command name → held files name ≡ Some bytes → Parses files command g s → HoldsConforming bytes g
+  grammar_of (parse grammar text workers) name bytes g s r e (more, f, c, t) =
+      subst (λ b. HoldsConforming b g) (held_once grammar bytes more (subst (λ n. held files n ≡ Some bytes) r e) f) c
+  grammar_of (check grammar) name bytes g s r e p = absurd p
+  grammar_of (sample lines workers) name bytes g s r e p = absurd r
+
+  spelled_once_by : (bytes : List ℕ) (g h : Grammar) → HoldsConforming bytes g → HoldsConforming bytes h → h ≡ g
+  spelled_once_by bytes g h c d = spelled_once (decoded bytes) h g d.0.1 c.0.1
+
+  one_parse : (command : Command) (g h : Grammar) (s t : List ℕ) → Parses files command g s → Parses files command h t → (h ≡ g) × (t ≡ s)
+  one_parse (parse grammar text workers) g h s t (bytes, e, c, f) (more, e', d, f') =
+      (spelled_once_by bytes g h c (subst (λ b. HoldsConforming b h) (held_once grammar bytes more e e') d), held_once text s t f f')
+  one_parse (check grammar) g h s t p q = absurd p
+  one_parse (sample lines workers) g h s t (c, e) (d, f) = (spelled_once_by sample_grammar g h c d, f ∙ sym e)
+
 module _ (words : List (List ℕ)) (files : Told) where
   -- ---- of words and files at most one holds
 
-  form_of_grammar : (P : List ℕ → Type 0) → OfGrammar words files P → HasSomeForm words
-  form_of_grammar P (grammar, text, bytes, form, e, p) = (grammar, text, form)
+  of_one : (c d : Command) → IsCommand words c → IsCommand words d → d ≡ c
+  of_one c d is also = command_is_one words d c also is
 
-  form_of_text : (P : Grammar → List ℕ → Type 0) → OfText words files P → HasSomeForm words
-  form_of_text P (grammar, text, bytes, s, g, form, e, c, t, p) = (grammar, text, form)
+  command_of_grammar : (P : List ℕ → Type 0) → OfGrammar words files P → HasCommand words
+  command_of_grammar P h = (h.0, h.1)
 
-  -- a name holds one list of bytes
-  held_once : (name other bytes more : List ℕ) → other ≡ name → held files name ≡ Some bytes → held files other ≡ Some more → more ≡ bytes
-  held_once name other bytes more n e f = some_is (sym (subst (λ x. held files x ≡ Some more) n f) ∙ e)
+  command_of_text : (P : Grammar → List ℕ → Type 0) → OfText words files P → HasCommand words
+  command_of_text P h = (h.0, h.1)
+
+  -- words with a command have a form
+  formless : HasNoForm words → HasCommand words → ⊥
+  formless none (command, is) = none command is
 
   two_grammars : (P Q : List ℕ → Type 0) → ((bytes : List ℕ) → P bytes → Q bytes → ⊥) → OfGrammar words files P → OfGrammar words files Q → ⊥
-  two_grammars P Q never (grammar, text, bytes, form, e, p) (other, text', more, form', f, q) =
-      let n = one_form words grammar text other text' form form' in
-      never bytes p (subst Q (held_once grammar other bytes more n.0 e f) q)
+  two_grammars P Q never (c, is, name, bytes, r, e, p) (d, also, other, more, r', f, q) =
+      let reads : ReadsGrammar c other = subst (λ x. ReadsGrammar x other) (of_one c d is also) r' in
+      never bytes p (subst Q (one_held files c name bytes other more r e reads f) q)
 
   grammar_and_text : (P : List ℕ → Type 0) (Q : Grammar → List ℕ → Type 0) → ((bytes : List ℕ) (g : Grammar) → P bytes → HoldsConforming bytes g → ⊥) → OfGrammar words files P → OfText words files Q → ⊥
-  grammar_and_text P Q never h (grammar, text, bytes, s, g, form, e, c, t, q) =
-      two_grammars P (λ b. HoldsConforming b g) (λ b. never b g) h (grammar, text, bytes, form, e, c)
+  grammar_and_text P Q never (c, is, name, bytes, r, e, p) (d, also, g, s, parses, q) =
+      never bytes g p (grammar_of files c name bytes g s r e (subst (λ x. Parses files x g s) (of_one c d is also) parses))
 
   two_texts : (P Q : Grammar → List ℕ → Type 0) → ((g : Grammar) (s : List ℕ) → P g s → Q g s → ⊥) → OfText words files P → OfText words files Q → ⊥
-  two_texts P Q never (grammar, text, bytes, s, g, form, e, c, t, p) (other, text', more, s', h, form', f, c', t', q) =
-      let n = one_form words grammar text other text' form form' in
-      let b = held_once grammar other bytes more n.0 e f in
-      let same : h ≡ g = spelled_once (decoded bytes) h g (subst (λ x. HoldsConforming x h) b c').0.1 c.0.1 in
-      never g s p (subst (λ x. Q x s) same (subst (Q h) (held_once text text' s s' n.1 t t') q))
+  two_texts P Q never (c, is, g, s, parses, p) (d, also, h, t, parses', q) =
+      let one = one_parse files c g h s t parses (subst (λ x. Parses files x h t) (of_one c d is also) parses') in
+      never g s p (subst (λ x. Q x s) one.0 (subst (Q h) one.1 q))
+
+  checked_and_grammar : (P : List ℕ → Type 0) → ((bytes : List ℕ) (g : Grammar) → P bytes → HoldsConforming bytes g → ⊥) → IsChecked words files → OfGrammar words files P → ⊥
+  checked_and_grammar P never (name, bytes, g, is, e, c) h =
+      two_grammars P (λ b. HoldsConforming b g) (λ b. never b g) h (check name, is, name, bytes, refl, e, c)
+
+  checked_and_text : (P : Grammar → List ℕ → Type 0) → IsChecked words files → OfText words files P → ⊥
+  checked_and_text P (name, bytes, g, is, e, c) (d, also, h, s, parses, p) = subst (λ x. Parses files x h s) (of_one (check name) d is also) parses
 
   -- ---- the cause of a reply
 
   data Why : Type 0 where
     by_document : OfText words files GivesDocument → Why
+    by_check : IsChecked words files → Why
     by_no_derivation : OfText words files GivesNothing → Why
-    by_no_form : ¬ (HasSomeForm words) → Why
+    by_no_form : HasNoForm words → Why
     by_no_grammar : OfGrammar words files IsNoGrammar → Why
     by_no_document : OfText words files GivesNoDocument → Why
     by_not_utf8 : IsNotUtf8 words files → Why
@@ -83,6 +121,7 @@ module _ (words : List (List ℕ)) (files : Told) where
 
   abbrev status_why : Why → ℕ
   status_why (by_document h) = 0
+  status_why (by_check h) = 0
   status_why (by_no_derivation h) = 1
   status_why (by_no_form h) = 2
   status_why (by_no_grammar h) = 3
@@ -90,51 +129,75 @@ module _ (words : List (List ℕ)) (files : Told) where
   status_why (by_not_utf8 h) = 5
   status_why (by_too_long h) = 6
 
-  why_refused : (grammar text bytes : List ℕ) → HasForm words grammar text → held files grammar ≡ Some bytes → (o : Outcome) → GrammarRefused bytes o → (w : Why) × (status_of o ≡ status_why w)
-  why_refused grammar text bytes form e grammar_too_long h = (by_no_grammar (grammar, text, bytes, form, e, inl h), refl)
-  why_refused grammar text bytes form e (grammar_not_utf8 valid) h = (by_not_utf8 (inl (grammar, text, bytes, form, e, (h.0, h.1))), refl)
-  why_refused grammar text bytes form e no_grammar h = (by_no_grammar (grammar, text, bytes, form, e, inr (h.0, λ g c. refused_or_held bytes no_grammar g h c)), refl)
-  why_refused grammar text bytes form e too_deep h = (by_no_grammar (grammar, text, bytes, form, e, inr (h.0, λ g c. refused_or_held bytes too_deep g h c)), refl)
-  why_refused grammar text bytes form e (not_conforming fault) h = (by_no_grammar (grammar, text, bytes, form, e, inr (h.1.0, λ g c. refused_or_held bytes (not_conforming fault) g h c)), refl)
-  why_refused grammar text bytes form e o h = absurd h
+  module _ (c : Command) (is : IsCommand words c) where
+    module _ (name bytes : List ℕ) (r : ReadsGrammar c name) (e : held files name ≡ Some bytes) where
+      of_grammar : (P : List ℕ → Type 0) → P bytes → OfGrammar words files P
+      of_grammar P p = (c, is, name, bytes, r, e, p)
 
-  why_answered : (grammar text bytes s : List ℕ) (g : Grammar) → HasForm words grammar text → held files grammar ≡ Some bytes → HoldsConforming bytes g → held files text ≡ Some s → (o : Outcome) → TextAnswered g s o →
-      (w : Why) × (status_of o ≡ status_why w)
-  why_answered grammar text bytes s g form e c t text_too_long h = (by_too_long (grammar, text, bytes, s, g, form, e, c, t, h), refl)
-  why_answered grammar text bytes s g form e c t (text_not_utf8 valid) h = (by_not_utf8 (inr (grammar, text, bytes, s, g, form, e, c, t, (h.0, h.1))), refl)
-  why_answered grammar text bytes s g form e c t (failed offset line column) (u, (n, o, l, m)) = (by_no_derivation (grammar, text, bytes, s, g, form, e, c, t, (u, n)), refl)
-  why_answered grammar text bytes s g form e c t (refused code) (u, (d, f, dyn)) = (by_no_document (grammar, text, bytes, s, g, form, e, c, t, (u, (d, f, (code, dyn)))), refl)
-  why_answered grammar text bytes s g form e c t (document gs Single) (u, (d, f, q, n, a)) = (by_document (grammar, text, bytes, s, g, form, e, c, t, (u, (d, f, subst HasNoRefusal q n))), refl)
-  why_answered grammar text bytes s g form e c t (document gs Ambiguous) (u, (d, f, q, n, a)) = (by_document (grammar, text, bytes, s, g, form, e, c, t, (u, (d, f, subst HasNoRefusal q n))), refl)
-  why_answered grammar text bytes s g form e c t o h = absurd h.1
+      no_other : (o : Outcome) → GrammarRefused bytes o → (g : Grammar) → ¬ (HoldsConforming bytes g)
+      no_other o h g held_one = refused_or_held bytes o g h held_one
+
+      why_refused : (o : Outcome) → GrammarRefused bytes o → (w : Why) × (status_of o ≡ status_why w)
+      why_refused grammar_too_long h = (by_no_grammar (of_grammar IsNoGrammar (inl h)), refl)
+      why_refused (grammar_not_utf8 valid) h = (by_not_utf8 (inl (of_grammar (IsUndecodable grammar_limit) (h.0, h.1))), refl)
+      why_refused no_grammar h = (by_no_grammar (of_grammar IsNoGrammar (inr (h.0, no_other no_grammar h))), refl)
+      why_refused too_deep h = (by_no_grammar (of_grammar IsNoGrammar (inr (h.0, no_other too_deep h))), refl)
+      why_refused (not_conforming fault) h = (by_no_grammar (of_grammar IsNoGrammar (inr (h.1.0, no_other (not_conforming fault) h))), refl)
+      why_refused o h = absurd h
+
+    module _ (g : Grammar) (s : List ℕ) (parses : Parses files c g s) where
+      of_text : (P : Grammar → List ℕ → Type 0) → P g s → OfText words files P
+      of_text P p = (c, is, g, s, parses, p)
+
+      why_answered : (o : Outcome) → TextAnswered g s o → (w : Why) × (status_of o ≡ status_why w)
+      why_answered text_too_long h = (by_too_long (of_text (λ g s. text_limit < length s) h), refl)
+      why_answered (text_not_utf8 valid) h = (by_not_utf8 (inr (of_text (λ g s. IsUndecodable text_limit s) (h.0, h.1))), refl)
+      why_answered (failed offset line column) (u, (n, o, l, m)) = (by_no_derivation (of_text GivesNothing (u, n)), refl)
+      why_answered (refused code) (u, (d, f, dyn)) = (by_no_document (of_text GivesNoDocument (u, (d, f, (code, dyn)))), refl)
+      why_answered (document gs Single) (u, (d, f, q, n, a)) = (by_document (of_text GivesDocument (u, (d, f, subst HasNoRefusal q n))), refl)
+      why_answered (document gs Ambiguous) (u, (d, f, q, n, a)) = (by_document (of_text GivesDocument (u, (d, f, subst HasNoRefusal q n))), refl)
+      why_answered o h = absurd h.1
+
+      why_measured : (o : Outcome) → Measured g s o → (w : Why) × (status_of o ≡ status_why w)
+      why_measured (document gs state) h = absurd h
+      why_measured (summarised text counts output) (gs, state, h, rest) = let w = why_answered (document gs state) h in (w.0, w.1)
+      why_measured o h = why_answered o h
 
   why : (o : Outcome) → IsReply words files o → (w : Why) × (status_of o ≡ status_why w)
   why o (inl h) = (by_no_form h.0, ap status_of h.1)
-  why o (inr ((grammar', text', form), (grammar, text, bytes, workers, command, e, inl r))) =
-      why_refused grammar text bytes (names words grammar' text' grammar text workers form command) e o r
-  why o (inr ((grammar', text', form), (grammar, text, bytes, workers, command, e, inr (g, c, s, t, a)))) =
-      why_answered grammar text bytes s g (names words grammar' text' grammar text workers form command) e c t o a
+  why o (inr (parse grammar text workers, is, bytes, e, inl r)) = why_refused (parse grammar text workers) is grammar bytes refl e o r
+  why o (inr (parse grammar text workers, is, bytes, e, inr (g, c, s, t, a))) = why_answered (parse grammar text workers) is g s (bytes, e, c, t) o a
+  why o (inr (check grammar, is, bytes, e, inl r)) = why_refused (check grammar) is grammar bytes refl e o r
+  why o (inr (check grammar, is, bytes, e, inr (g, c, q))) = (by_check (grammar, bytes, g, is, e, c), ap status_of q)
+  why o (inr (sample lines workers, is, g, c, m)) = why_measured (sample lines workers) is g _ (c, refl) o m
 
   -- of two causes none has the lesser status
   none_less : (w v : Why) → status_why w < status_why v → ⊥
   none_less (by_document h) (by_no_derivation l) less = two_texts GivesDocument GivesNothing is_derived h l
-  none_less (by_document h) (by_no_form l) less = l (form_of_text GivesDocument h)
+  none_less (by_document h) (by_no_form l) less = formless l (command_of_text GivesDocument h)
   none_less (by_document h) (by_no_grammar l) less = grammar_and_text IsNoGrammar GivesDocument no_grammar_held l h
   none_less (by_document h) (by_no_document l) less = two_texts GivesDocument GivesNoDocument is_one h l
   none_less (by_document h) (by_not_utf8 (inl l)) less = grammar_and_text (IsUndecodable grammar_limit) GivesDocument (λ b g p c. p.1 c.0.0.1) l h
   none_less (by_document h) (by_not_utf8 (inr l)) less = two_texts GivesDocument (λ g s. IsUndecodable text_limit s) (λ g s p q. q.1 p.0.1) h l
   none_less (by_document h) (by_too_long l) less = two_texts GivesDocument (λ g s. text_limit < length s) (λ g s p q. omega (arith, p.0.0, q)) h l
-  none_less (by_no_derivation h) (by_no_form l) less = l (form_of_text GivesNothing h)
+  none_less (by_check h) (by_no_derivation l) less = checked_and_text GivesNothing h l
+  none_less (by_check h) (by_no_form l) less = formless l (check h.0, h.3)
+  none_less (by_check h) (by_no_grammar l) less = checked_and_grammar IsNoGrammar no_grammar_held h l
+  none_less (by_check h) (by_no_document l) less = checked_and_text GivesNoDocument h l
+  none_less (by_check h) (by_not_utf8 (inl l)) less = checked_and_grammar (IsUndecodable grammar_limit) (λ b g p c. p.1 c.0.0.1) h l
+  none_less (by_check h) (by_not_utf8 (inr l)) less = checked_and_text (λ g s. IsUndecodable text_limit s) h l
+  none_less (by_check h) (by_too_long l) less = checked_and_text (λ g s. text_limit < length s) h l
+  none_less (by_no_derivation h) (by_no_form l) less = formless l (command_of_text GivesNothing h)
   none_less (by_no_derivation h) (by_no_grammar l) less = grammar_and_text IsNoGrammar GivesNothing no_grammar_held l h
   none_less (by_no_derivation h) (by_no_document l) less = two_texts GivesNothing GivesNoDocument is_refused h l
   none_less (by_no_derivation h) (by_not_utf8 (inl l)) less = grammar_and_text (IsUndecodable grammar_limit) GivesNothing (λ b g p c. p.1 c.0.0.1) l h
   none_less (by_no_derivation h) (by_not_utf8 (inr l)) less = two_texts GivesNothing (λ g s. IsUndecodable text_limit s) (λ g s p q. q.1 p.0.1) h l
   none_less (by_no_derivation h) (by_too_long l) less = two_texts GivesNothing (λ g s. text_limit < length s) (λ g s p q. omega (arith, p.0.0, q)) h l
-  none_less (by_no_form h) (by_no_grammar l) less = h (form_of_grammar IsNoGrammar l)
-  none_less (by_no_form h) (by_no_document l) less = h (form_of_text GivesNoDocument l)
-  none_less (by_no_form h) (by_not_utf8 (inl l)) less = h (form_of_grammar (IsUndecodable grammar_limit) l)
-  none_less (by_no_form h) (by_not_utf8 (inr l)) less = h (form_of_text (λ g s. IsUndecodable text_limit s) l)
-  none_less (by_no_form h) (by_too_long l) less = h (form_of_text (λ g s. text_limit < length s) l)
+  none_less (by_no_form h) (by_no_grammar l) less = formless h (command_of_grammar IsNoGrammar l)
+  none_less (by_no_form h) (by_no_document l) less = formless h (command_of_text GivesNoDocument l)
+  none_less (by_no_form h) (by_not_utf8 (inl l)) less = formless h (command_of_grammar (IsUndecodable grammar_limit) l)
+  none_less (by_no_form h) (by_not_utf8 (inr l)) less = formless h (command_of_text (λ g s. IsUndecodable text_limit s) l)
+  none_less (by_no_form h) (by_too_long l) less = formless h (command_of_text (λ g s. text_limit < length s) l)
   none_less (by_no_grammar h) (by_no_document l) less = grammar_and_text IsNoGrammar GivesNoDocument no_grammar_held h l
   none_less (by_no_grammar h) (by_not_utf8 (inl l)) less = two_grammars IsNoGrammar (IsUndecodable grammar_limit) no_grammar_other h l
   none_less (by_no_grammar h) (by_not_utf8 (inr l)) less = grammar_and_text IsNoGrammar (λ g s. IsUndecodable text_limit s) no_grammar_held h l
@@ -155,15 +218,20 @@ module _ (words : List (List ℕ)) (files : Told) where
       by_order (inr (inl same)) = same
       by_order (inr (inr more)) = absurd (none_less v w more)
 
-  is_document : (w : Why) → status_why w ≡ 0 → OfText words files GivesDocument
-  is_document (by_document h) e = h
-  is_document w e = absurd (omega (arith, e))
+  is_done : (w : Why) → status_why w ≡ 0 → OfText words files GivesDocument ⊎ IsChecked words files
+  is_done (by_document h) e = inl h
+  is_done (by_check h) e = inr h
+  is_done w e = absurd (omega (arith, e))
+
+  done_why : OfText words files GivesDocument ⊎ IsChecked words files → (w : Why) × (status_why w ≡ 0)
+  done_why (inl h) = (by_document h, refl)
+  done_why (inr h) = (by_check h, refl)
 
   is_no_derivation : (w : Why) → status_why w ≡ 1 → OfText words files GivesNothing
   is_no_derivation (by_no_derivation h) e = h
   is_no_derivation w e = absurd (omega (arith, e))
 
-  is_no_form : (w : Why) → status_why w ≡ 2 → ¬ (HasSomeForm words)
+  is_no_form : (w : Why) → status_why w ≡ 2 → HasNoForm words
   is_no_form (by_no_form h) e = h
   is_no_form w e = absurd (omega (arith, e))
 
@@ -185,7 +253,7 @@ module _ (words : List (List ℕ)) (files : Told) where
 
   caused_by : (status : ℕ) (w : Why) → status ≡ status_why w → IsCaused words files status
   caused_by status w q = record {
-    document = ((λ e. is_document w (sym q ∙ e)), λ h. q ∙ one_status w (by_document h));
+    done = ((λ e. is_done w (sym q ∙ e)), λ h. let v = done_why h in q ∙ one_status w v.0 ∙ v.1);
     no_derivation = ((λ e. is_no_derivation w (sym q ∙ e)), λ h. q ∙ one_status w (by_no_derivation h));
     no_form = ((λ e. is_no_form w (sym q ∙ e)), λ h. q ∙ one_status w (by_no_form h));
     no_grammar = ((λ e. is_no_grammar w (sym q ∙ e)), λ h. q ∙ one_status w (by_no_grammar h));

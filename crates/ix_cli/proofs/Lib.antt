@@ -1,7 +1,6 @@
 pub mod Caused
-pub mod Forms
 pub mod LineForms
-pub mod Lists
+pub mod Options
 pub mod LoadedFiles
 pub mod OneReply
 pub mod Outputs

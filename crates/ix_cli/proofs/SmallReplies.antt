@@ -31,7 +31,7 @@ use Rattle.ix_cli.specs.Table.{IsReply}
 use Rattle.ix_cli.specs.Unread.{IsUnread, HoldsSome}
 use Rattle.ix_cli.proofs.Caused.{reply_caused}
 use Rattle.ix_cli.proofs.Forms.{names, one_form}
-use Rattle.ix_cli.proofs.Lists.{some_is}
+use Rattle.ix_cli.proofs.Options.{some_is}
 use Rattle.ix_cli.proofs.OneReply.{one_reply}
 
 pub has_form : HasForm parse_g_t (codes "g") (codes "t")

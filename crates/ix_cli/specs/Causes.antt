@@ -4,15 +4,17 @@
 use Rattle.std.specs.Prelude.{◌≡◌, ◌⊎◌, ◌↔◌, ◌<◌, ◌≤◌, ℕ, List, length, Some, IsUtf8}
 use Rattle.ix_model.specs.declared.grammar.Grammar.{Grammar}
 use Rattle.ix_model.specs.Answers.Answer.{IsText, HoldsConforming}
+use Rattle.ix_model.specs.Answers.CommandLine.{Command, parse, check, sample, IsCommand, HasNoForm}
 use Rattle.ix_model.specs.Answers.Decoding.{decoded}
 use Rattle.ix_model.specs.Answers.Limits.{grammar_limit, text_limit}
+use Rattle.ix_model.specs.Answers.Sample.{sample_grammar, sample_text}
 use Rattle.ix_model.specs.Derivations.Trees.{Tree}
 use Rattle.ix_model.specs.Derivations.Derives.{IsDerivation}
 use Rattle.ix_model.specs.Derivations.Order.{First}
 use Rattle.ix_model.specs.Documents.Dyn.{Refusal, Dyn, HasNoRefusal}
 use Rattle.ix_model.specs.Documents.Gives.{gives_root}
 use Rattle.ix_edge.specs.Told.{Told, held}
-use Rattle.ix_cli.specs.Form.{HasForm, HasSomeForm}
+use Rattle.ix_cli.specs.Named.{ReadsGrammar}
 
 -- ---- of the bytes of a grammar
 
@@ -40,15 +42,24 @@ GivesNoDocument g s = IsText text_limit s × ((d : Tree) × First g (decoded s) 
 
 -- ---- of words and files
 
+-- the command parses this text under this grammar
+abbrev pub Parses : Told → Command → Grammar → List ℕ → Type 0
+Parses files (parse grammar text workers) g s = (bytes : List ℕ) × (held files grammar ≡ Some bytes) × HoldsConforming bytes g × (held files text ≡ Some s)
+Parses files (check grammar) g s = ⊥
+Parses files (sample lines workers) g s = HoldsConforming sample_grammar g × (s ≡ sample_text lines)
+
 module _ (words : List (List ℕ)) (files : Told) where
   -- the words name a grammar file, and this is true of its bytes
   abbrev pub OfGrammar : (List ℕ → Type 0) → Type 0
-  OfGrammar P = (grammar text bytes : List ℕ) × HasForm words grammar text × (held files grammar ≡ Some bytes) × P bytes
+  OfGrammar P = (command : Command) × IsCommand words command × (name bytes : List ℕ) × ReadsGrammar command name × (held files name ≡ Some bytes) × P bytes
 
-  -- the words name a file of a conforming grammar and one of a text, and this is true of the grammar and of the text's bytes
+  -- the words ask for the parse of a text under a grammar, and this is true of the grammar and of the text's bytes
   abbrev pub OfText : (Grammar → List ℕ → Type 0) → Type 0
-  OfText P = (grammar text bytes s : List ℕ) × (g : Grammar) × HasForm words grammar text
-      × (held files grammar ≡ Some bytes) × HoldsConforming bytes g × (held files text ≡ Some s) × P g s
+  OfText P = (command : Command) × IsCommand words command × (g : Grammar) × (s : List ℕ) × Parses files command g s × P g s
+
+  -- the words ask whether the bytes of a file are a conforming grammar, and they are
+  abbrev pub IsChecked : Type 0
+  IsChecked = (name bytes : List ℕ) × (g : Grammar) × IsCommand words (check name) × (held files name ≡ Some bytes) × HoldsConforming bytes g
 
   -- the grammar is not UTF-8, or the text is not
   abbrev pub IsNotUtf8 : Type 0
@@ -56,9 +67,9 @@ module _ (words : List (List ℕ)) (files : Told) where
 
   -- each status from 0 to 6 is this one exactly where its cause holds
   pub record IsCaused (status : ℕ) : Type 0 where
-    pub document : (status ≡ 0) ↔ OfText GivesDocument
+    pub done : (status ≡ 0) ↔ (OfText GivesDocument ⊎ IsChecked)
     pub no_derivation : (status ≡ 1) ↔ OfText GivesNothing
-    pub no_form : (status ≡ 2) ↔ (¬ (HasSomeForm words))
+    pub no_form : (status ≡ 2) ↔ HasNoForm words
     pub no_grammar : (status ≡ 3) ↔ OfGrammar IsNoGrammar
     pub no_document : (status ≡ 4) ↔ OfText GivesNoDocument
     pub not_utf8 : (status ≡ 5) ↔ IsNotUtf8

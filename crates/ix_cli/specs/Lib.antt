@@ -1,11 +1,11 @@
 pub mod Answered
 pub mod Causes
 pub mod Examples
-pub mod Form
 pub mod Laws
 pub mod Lines
 pub mod Loaded
 pub mod Means
+pub mod Named
 pub mod Refused
 pub mod Says
 pub mod Shown

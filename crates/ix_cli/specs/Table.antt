@@ -1,11 +1,10 @@
--- What the command answers where nothing outside fails: the table of its outcomes, for the words that have a form.
+-- What the command answers where nothing outside fails: the table of its outcomes, over files that tell what they hold.
 -- Source: this project's own.
-use Rattle.std.specs.Prelude.{◌≡◌, ◌⊎◌, ℕ, List}
-use Rattle.ix_model.specs.Answers.Answer.{ParseAnswered}
-use Rattle.ix_model.specs.Answers.Outcome.{Outcome, no_form}
+use Rattle.std.specs.Prelude.{ℕ, List}
+use Rattle.ix_model.specs.Answers.Answer.{Answered}
+use Rattle.ix_model.specs.Answers.Outcome.{Outcome}
 use Rattle.ix_edge.specs.Told.{Told, held}
-use Rattle.ix_cli.specs.Form.{HasSomeForm}
 
--- the words have no form, or this comes of the grammar and the text that they name
+-- this comes of the words and of what the files hold
 abbrev pub IsReply : List (List ℕ) → Told → Outcome → Type 0
-IsReply words told o = ((¬ (HasSomeForm words)) × (o ≡ no_form)) ⊎ (HasSomeForm words × ParseAnswered words (held told) o)
+IsReply words files o = Answered words (held files) o

@@ -2,6 +2,7 @@ ghost use Rattle.std.specs.Prelude.{◌≡◌};
 ghost use Rattle.ix_cli.specs.Lines.{fault_status as status_of_fault, refusal_status as status_of_refusal, status_of};
 
 use ix_engine::{ParseFault, Refusal};
+use ix_words::WordsFault;
 use std::alloc::AllocError;
 
 /// What is answered in place of a document.
@@ -15,7 +16,7 @@ pub enum Answer {
     Text(ParseFault),
     /// The file of this name could not be read.
     Read(String),
-    /// The document could not be written.
+    /// The output could not be written.
     Write,
     /// Memory ran out.
     Memory,
@@ -45,6 +46,20 @@ impl From<AllocError> for Answer {
 
     fn from(_: AllocError) -> Answer {
         Answer::Memory
+    }
+}
+
+impl From<WordsFault> for Answer {
+    ghost use Rattle.std.specs.Prelude.{◌≡◌};
+    ghost use Rattle.ix_cli.specs.Means.{of_words};
+
+    ghost from_gives = { λ fault answer. answer ≡ of_words fault };
+
+    fn from(fault: WordsFault) -> Answer {
+        match fault {
+            WordsFault::NoForm => Answer::Words,
+            WordsFault::Memory => Answer::Memory,
+        }
     }
 }
 

@@ -1,10 +1,11 @@
 ghost use Rattle.std.specs.Prelude.{◌≡◌, ◌≢◌, ◌⊎◌, ◌≤◌, ℕ, List, IfOk, IfErr, IfSome, map, string_bytes};
 ghost use Rattle.std.specs.Io.KnownBytes.{Keeps};
 ghost use Rattle.ix_edge.specs.Causes.{Rose};
+ghost use Rattle.ix_model.specs.Answers.CommandLine.{HasNoForm};
 ghost use Rattle.ix_cli.specs.Answered.{IsAnswered, IsCutOff, IsMessage};
 ghost use Rattle.ix_cli.specs.Causes.{IsCaused};
-ghost use Rattle.ix_cli.specs.Form.{HasForm, HasSomeForm};
 ghost use Rattle.ix_cli.specs.Lines.{read_line};
+ghost use Rattle.ix_cli.specs.Named.{HasCommand, Names};
 ghost use Rattle.ix_cli.specs.Refused.{IsRefused};
 ghost use Rattle.ix_cli.specs.Says.{Says};
 ghost use Rattle.ix_cli.specs.Shown.{ShowsReply};
@@ -13,22 +14,24 @@ ghost use Rattle.ix_cli.specs.Written.{IsWritten};
 
 use crate::answer::Answer;
 use crate::lines::{MEMORY, message};
-use crate::load::{load_grammar, load_text};
-use crate::output::{Output, output_of};
+use crate::commands::carried_out;
+use crate::output::Output;
 use crate::telling::{refuse, tell};
-use crate::words::operands;
 use ix_edge::{Files, Sink};
+use ix_words::words;
 use std::alloc::Global;
 
-/// Runs the command that the words after the program's name spell, alone and on one thread, and gives its exit status.
+/// Runs the command that the words after the program's name spell, alone and on one thread, however many workers it asks
+/// for, and gives its exit status.
 ///
-/// The document goes to `out` in one put, or the failed document; and one line to `msg` where there is neither. The status is
-/// the first of these that applies: 2 where the words have no form; 7 where the grammar could not be read; 3 where it is
-/// refused (G01 to G09), or 5 where it is not UTF-8; 7 where the text could not be read; 6 where it has more than
-/// 16,777,216 bytes; 5 where it is not UTF-8; 1 where it has no derivation, with the failed document; 4 where what its
-/// first derivation gives is no document (E01 to E06); else 0, or 8 where the output could not be written. Want of memory,
-/// with status 9, may come at any call before the put. At a status other than 0, 1 and 8 nothing is written to `out`. A
-/// fault of `msg` changes nothing.
+/// To `out` go, in one put: for `parse` the document, or the failed document; for `check` the line `ok`; for `sample` the
+/// four lines of figures. One line goes to `msg` where nothing goes to `out`. The status is the first of these that applies:
+/// 2 where the words have no form; 7 where the grammar could not be read; 3 where it is refused (G01 to G09), or 5 where it
+/// is not UTF-8; and for `parse` 7 where the text could not be read; 6 where it has more than 16,777,216 bytes; 5 where it is
+/// not UTF-8; 1 where it has no derivation, with the failed document; 4 where what its first derivation gives is no document
+/// (E01 to E06); else 0, or 8 where the output could not be written. `sample` reads no file. Want of memory, with status 9,
+/// may come at any call before the put. At a status other than 0, 1 and 8 nothing is written to `out`. A fault of `msg`
+/// changes nothing.
 pub fn run_alone<F: Files, O: Sink, M: Sink>(
     alloc: Global,
     words: &[String],
@@ -40,9 +43,7 @@ pub fn run_alone<F: Files, O: Sink, M: Sink>(
     ensures answered { result ≢ 7 → result ≢ 8 → result ≢ 9 →
         IsAnswered (map string_bytes words.now) (F.told files.old) (O.written out.old) (O.written out.new) result
         (Says (M.written msg.old) (M.written msg.new) (M.faults msg.old) (M.faults msg.new)) }
-    ensures complete { (grammar text : List ℕ) → HasForm (map string_bytes words.now) grammar text →
-        ¬ (Rose (F.faults files.old grammar) (F.faults files.new grammar)) →
-        ¬ (Rose (F.faults files.old text) (F.faults files.new text)) →
+    ensures complete { ((name : List ℕ) → Names (map string_bytes words.now) name → ¬ (Rose (F.faults files.old name) (F.faults files.new name))) →
         ¬ (Rose (O.faults out.old) (O.faults out.new)) → result ≢ 9 →
         IsAnswered (map string_bytes words.now) (F.told files.old) (O.written out.old) (O.written out.new) result
         (Says (M.written msg.old) (M.written msg.new) (M.faults msg.old) (M.faults msg.new)) }
@@ -50,8 +51,8 @@ pub fn run_alone<F: Files, O: Sink, M: Sink>(
     // Each status from 0 to 6 comes exactly where its cause holds.
     ensures causes { result ≢ 7 → result ≢ 8 → result ≢ 9 →
         IfSome (F.told files.old) (λ told. IsCaused (map string_bytes words.now) told result) }
-    ensures no_form { ¬ (HasSomeForm (map string_bytes words.now)) → (result ≡ 2) ⊎ (result ≡ 9) }
-    ensures words { result ≡ 2 → ¬ (HasSomeForm (map string_bytes words.now)) }
+    ensures no_form { HasNoForm (map string_bytes words.now) → (result ≡ 2) ⊎ (result ≡ 9) }
+    ensures words { result ≡ 2 → HasNoForm (map string_bytes words.now) }
 
     // The causes of the other answers.
     ensures read { result ≡ 7 → (name : List ℕ)
@@ -74,21 +75,17 @@ pub fn run_alone<F: Files, O: Sink, M: Sink>(
     }
 }
 
-// What is written of the files that the words name.
+// What is written of the command that the words ask for.
 fn answer_of<F: Files>(alloc: Global, words: &[String], files: &mut F) -> Result<Output, Answer>
-    ensures form { IfOk result (λ _. HasSomeForm (map string_bytes words.now)) }
+    ensures form { IfOk result (λ _. HasCommand (map string_bytes words.now)) }
     ensures status { IfOk result (λ output. (output.status ≡ 0) ⊎ (output.status ≡ 1)) }
     ensures ok { IfOk result (λ output. IfSome (F.told files.old) (λ told. ShowsReply (map string_bytes words.now) told output)) }
     ensures err { IfErr result (IsRefused (map string_bytes words.now) (F.told files.old) (F.faults files.old) (F.faults files.new)) }
     ensures same { F.told files.new ≡ F.told files.old }
     ensures later { (name : List ℕ) → F.faults files.old name ≤ F.faults files.new name }
 {
-    let Some((grammar, text)) = operands(words) else {
-        return Err(Answer::Words);
-    };
-    let grammar = load_grammar(alloc, grammar, files)?;
-    let text = load_text(alloc, text, files)?;
-    Ok(output_of(alloc, &grammar, &text)?)
+    let command = words(alloc, words)?;
+    carried_out(alloc, &command, files)
 }
 
 // Puts what goes to the output. The line for a fault is made before, so that want of memory never comes after a byte was put.

@@ -5,7 +5,7 @@ use Rattle.ix_examples.specs.SmallAnswers.{one_way}
 use Rattle.ix_examples.specs.SmallGrammars.{only_a}
 use Rattle.ix_examples.proofs.SmallTexts.{first}
 use Rattle.ix_answer_laws.proofs.OneAnswer.{refused_or_held}
-use Rattle.ix_cli.proofs.Lists.{some_is}
+use Rattle.ix_cli.proofs.Options.{some_is}
 use Rattle.ix_cli.proofs.SmallReplies.{nothing_refused, holds_one_way}
 use Rattle.ix_cli.proofs.laws.loads_that_fail.Goals as goal
 
