@@ -7,7 +7,7 @@ use Rattle.ix_examples.proofs.SmallPlans.{planned_a}
 use Rattle.ix_examples.proofs.SmallTexts.{first}
 use Rattle.ix_worked_examples.proofs.SmallRules.{plan_of_a}
 use Rattle.ix_engine.specs.Examples.{a_counts, b_counts}
-use Rattle.ix_engine.proofs.CountsOnce.{counts_are_one}
+use Rattle.ix_figure_laws.proofs.CountsOnce.{counts_are_one}
 use Rattle.ix_engine.proofs.SmallCounts.{counts_on_a, counts_on_b}
 use Rattle.ix_engine.proofs.laws.figures_of_one_literal.Goals as goal
 

@@ -15,7 +15,7 @@ use Rattle.ix_offset_laws.proofs.SmallDots.{furthest_of_b}
 use Rattle.ix_worked_examples.proofs.SmallAnswers.{a_parsed}
 use Rattle.ix_worked_examples.proofs.SmallRules.{plan_of_a}
 use Rattle.ix_engine.specs.Examples.{a_counts, b_counts}
-use Rattle.ix_engine.proofs.CountsOnce.{counts_are_one}
+use Rattle.ix_figure_laws.proofs.CountsOnce.{counts_are_one}
 use Rattle.ix_engine.proofs.SmallCounts.{counts_on_a, counts_on_b, plan_of_b}
 use Rattle.ix_engine.proofs.laws.outcomes_of_one_literal.Goals as goal
 
