@@ -21,7 +21,7 @@ use Rattle.ix_model.specs.Grammars.Breach.{Fault, Breach, LeastBreach}
 use Rattle.ix_model.specs.Documents.Dyn.{Dyn, HasNoRefusal}
 use Rattle.ix_model.specs.Derivations.Offset.{Offset}
 use Rattle.ix_model.specs.Answers.Places.{line_of, column_of}
-use Rattle.ix_model.specs.Answers.CommandLine.{parse, check, sample, IsCommand, HasNoForm}
+use Rattle.ix_model.specs.Answers.CommandLine.{Command, parse, check, sample, IsCommand, HasNoForm}
 use Rattle.ix_model.specs.Answers.Sample.{sample_grammar, sample_text}
 use Rattle.ix_model.specs.Answers.Outcome.{Outcome, no_form, grammar_too_long, grammar_not_utf8, no_grammar, too_deep, not_conforming, conforms, text_too_long, text_not_utf8, failed, refused, document, summarised, status_of, output_of, message_of}
 
@@ -69,27 +69,23 @@ module _ (g : Grammar) where
       × (text ≡ length bytes) × (output ≡ length (xml gs state))
   Measured bytes outcome = TextAnswered bytes outcome
 
+-- what comes of a command where the files hold what the map tells
+abbrev pub CommandAnswered : (map : List ℕ → Option (List ℕ)) → Command → Outcome → Type 0
+-- the grammar is refused, or the text is answered under it; a text under a grammar that is refused is not looked at
+CommandAnswered map (parse grammar text workers) outcome = (bytes : List ℕ) × (map grammar ≡ Some bytes) × (
+    GrammarRefused bytes outcome
+    ⊎ ((g : Grammar) × HoldsConforming bytes g × (s : List ℕ) × (map text ≡ Some s) × TextAnswered g s outcome))
+-- the grammar is refused, or it conforms
+CommandAnswered map (check name) outcome = (bytes : List ℕ) × (map name ≡ Some bytes) × (
+    GrammarRefused bytes outcome
+    ⊎ ((g : Grammar) × HoldsConforming bytes g × (outcome ≡ conforms)))
+-- the figures of the sample's text under its grammar; no file is looked at
+CommandAnswered map (sample lines workers) outcome = (g : Grammar) × HoldsConforming sample_grammar g × Measured g (sample_text lines) outcome
+
 module _ (words : List (List ℕ)) (map : List ℕ → Option (List ℕ)) where
-  -- the words ask for `check`: the grammar conforms, or it is refused
-  abbrev pub CheckAnswered : Outcome → Type 0
-  CheckAnswered outcome = (name bytes : List ℕ) × IsCommand words (check name) × (map name ≡ Some bytes) × (
-      GrammarRefused bytes outcome
-      ⊎ ((g : Grammar) × HoldsConforming bytes g × (outcome ≡ conforms)))
-
-  -- the words ask for `parse`: the grammar is refused, or the text is answered under it; a text under a grammar that is refused is not looked at
-  abbrev pub ParseAnswered : Outcome → Type 0
-  ParseAnswered outcome = (grammar text bytes : List ℕ) × (workers : ℕ) × IsCommand words (parse grammar text workers) × (map grammar ≡ Some bytes) × (
-      GrammarRefused bytes outcome
-      ⊎ ((g : Grammar) × HoldsConforming bytes g × (s : List ℕ) × (map text ≡ Some s) × TextAnswered g s outcome))
-
-  -- the words ask for `sample`: the figures of its text under its grammar; no file is looked at
-  abbrev pub SampleAnswered : Outcome → Type 0
-  SampleAnswered outcome =
-      (lines workers : ℕ) × IsCommand words (sample lines workers) × (g : Grammar) × HoldsConforming sample_grammar g × Measured g (sample_text lines) outcome
-
   -- what comes of the words
   abbrev pub Answered : Outcome → Type 0
-  Answered outcome = (HasNoForm words × (outcome ≡ no_form)) ⊎ (CheckAnswered outcome ⊎ (ParseAnswered outcome ⊎ SampleAnswered outcome))
+  Answered outcome = (HasNoForm words × (outcome ≡ no_form)) ⊎ ((command : Command) × IsCommand words command × CommandAnswered map command outcome)
 
   -- the status, the output and the message, which is empty where there is none
   abbrev pub Answer : (status : ℕ) (output message : List ℕ) → Type 0
