@@ -1,15 +1,20 @@
 -- Words and files have one answer.
-use Rattle.std.proofs.Common.{◌≡◌, refl, ap, sym, subst, ◌∙◌, ◌⊎◌, ℕ, ◌<◌, ◌≤◌, List, [], ◌∷◌, ◌++◌, length, Option, Some, arith}
+use Rattle.std.proofs.Common.{◌≡◌, ◌≢◌, refl, ap, sym, subst, ◌∙◌, ◌⊎◌, ℕ, ◌<◌, ◌≤◌, List, [], ◌∷◌, ◌++◌, length, Option, Some, arith}
 use mathlib.Core.Logic.{inl, inr}
 use Rattle.std.specs.Prelude.{IsUtf8}
 use Rattle.std.specs.List.{AllByRecursion}
 use Rattle.std.specs.Str.Lossy.{utf8_valid_len}
 use Rattle.ix_model.specs.declared.grammar.Grammar.{Grammar}
+use Rattle.ix_model.specs.declared.counts.Counts.{Counts}
+use Rattle.ix_model.specs.declared.state.State.{State}
 use Rattle.ix_model.specs.declared.state.State.TheVariants.{Single, Ambiguous as Several}
 use Rattle.ix_model.specs.Derivations.Trees.{Tree}
 use Rattle.ix_model.specs.Derivations.Derives.{IsDerivation, Ambiguous}
 use Rattle.ix_model.specs.Derivations.Order.{First}
 use Rattle.ix_model.specs.Documents.Gives.{Givens, gives_root}
+use Rattle.ix_model.specs.Documents.Xml.{xml}
+use Rattle.ix_model.specs.Closure.Figures.{IsCounted}
+use Rattle.ix_model.specs.Expansion.Parts.{Parts}
 use Rattle.ix_model.specs.Answers.Decoding.{decoded}
 use Rattle.ix_model.specs.Spelling.Spells.{Spells}
 use Rattle.ix_model.specs.Spelling.Depth.{depth}
@@ -18,10 +23,12 @@ use Rattle.ix_model.specs.Grammars.Breach.{Fault, version, code_point, range, cl
 use Rattle.ix_model.specs.Documents.Dyn.{Refusal, Dyn, HasNoRefusal}
 use Rattle.ix_model.specs.Derivations.Offset.{Offset}
 use Rattle.ix_model.specs.Answers.Places.{line_of, column_of}
-use Rattle.ix_model.specs.Answers.CommandLine.{parse, check}
-use Rattle.ix_model.specs.Answers.Outcome.{Outcome, no_form, grammar_too_long, grammar_not_utf8, no_grammar, too_deep, not_conforming, conforms, text_too_long, text_not_utf8, failed, refused, document}
-use Rattle.ix_model.specs.Answers.Answer.{IsText, HoldsGrammar, HoldsConforming, GrammarRefused, Parsed, TextAnswered, Answered}
+use Rattle.ix_model.specs.Answers.CommandLine.{Command, parse, check, sample}
+use Rattle.ix_model.specs.Answers.Sample.{sample_grammar, sample_text}
+use Rattle.ix_model.specs.Answers.Outcome.{Outcome, no_form, grammar_too_long, grammar_not_utf8, no_grammar, too_deep, not_conforming, conforms, text_too_long, text_not_utf8, failed, refused, document, summarised}
+use Rattle.ix_model.specs.Answers.Answer.{IsText, HoldsGrammar, HoldsConforming, GrammarRefused, Parsed, TextAnswered, Measured, CommandAnswered, Answered}
 use Rattle.ix_model.specs.Answers.Limits.{grammar_limit, text_limit, depth_limit}
+use Rattle.ix_figure_laws.proofs.FiguresOnce.{figures_are_one}
 use Rattle.ix_answer_laws.proofs.Commands.{command_is_one}
 use Rattle.ix_spelling_laws.proofs.ReadingComplete.{spelled_once}
 use Rattle.ix_model.proofs.Firsts.{first_is_one as first_of_one}
@@ -65,13 +72,7 @@ module _ (bytes : List ℕ) where
   reason no_grammar h = is_none h.0 h.1
   reason too_deep h = is_deep h.1 h.0 h.2 h.3
   reason (not_conforming fault) h = has_fault fault h.0 h.1 h.2
-  reason no_form h = absurd h
-  reason conforms h = absurd h
-  reason text_too_long h = absurd h
-  reason (text_not_utf8 valid) h = absurd h
-  reason (failed offset line column) h = absurd h
-  reason (refused code) h = absurd h
-  reason (document gs state) h = absurd h
+  reason o h = absurd h
 
   same_grammar : (g h : Grammar) → Spells (decoded bytes) g → Spells (decoded bytes) h → g ≡ h
   same_grammar g h p q = spelled_once (decoded bytes) g h p q
@@ -133,15 +134,7 @@ module _ (g : Grammar) where
   result s (refused code) h = no_document code h.0 h.1 h.2
   result s (document gs Several) h = several gs h.0 h.1 h.2 h.3 h.4
   result s (document gs Single) h = single gs h.0 h.1 h.2 h.3 h.4
-  result s no_form h = absurd h
-  result s grammar_too_long h = absurd h
-  result s (grammar_not_utf8 valid) h = absurd h
-  result s no_grammar h = absurd h
-  result s too_deep h = absurd h
-  result s (not_conforming fault) h = absurd h
-  result s conforms h = absurd h
-  result s text_too_long h = absurd h
-  result s (text_not_utf8 valid) h = absurd h
+  result s o h = absurd h
 
   module _ (s : List ℕ) where
     -- two first derivations give the same
@@ -178,16 +171,7 @@ module _ (g : Grammar) where
   text_result : (bytes : List ℕ) (o : Outcome) → TextAnswered g bytes o → TextResult bytes o
   text_result bytes text_too_long h = too_many h
   text_result bytes (text_not_utf8 valid) h = not_text valid h.0 h.1 h.2
-  text_result bytes (failed offset line column) h = of_text _ h.0 (result (decoded bytes) _ h.1)
-  text_result bytes (refused code) h = of_text _ h.0 (result (decoded bytes) _ h.1)
-  text_result bytes (document gs state) h = of_text _ h.0 (result (decoded bytes) _ h.1)
-  text_result bytes no_form h = of_text _ h.0 (result (decoded bytes) _ h.1)
-  text_result bytes grammar_too_long h = of_text _ h.0 (result (decoded bytes) _ h.1)
-  text_result bytes (grammar_not_utf8 valid) h = of_text _ h.0 (result (decoded bytes) _ h.1)
-  text_result bytes no_grammar h = of_text _ h.0 (result (decoded bytes) _ h.1)
-  text_result bytes too_deep h = of_text _ h.0 (result (decoded bytes) _ h.1)
-  text_result bytes (not_conforming fault) h = of_text _ h.0 (result (decoded bytes) _ h.1)
-  text_result bytes conforms h = of_text _ h.0 (result (decoded bytes) _ h.1)
+  text_result bytes o h = of_text o h.0 (result (decoded bytes) o h.1)
 
   one_text_result : (bytes : List ℕ) (o p : Outcome) → TextResult bytes o → TextResult bytes p → o ≡ p
   one_text_result bytes _ _ (too_many l) (too_many m) = refl
@@ -200,9 +184,42 @@ module _ (g : Grammar) where
   one_text_result bytes _ _ (of_text o t r) (not_text v m u e) = absurd (u t.1)
   one_text_result bytes _ _ (of_text o t r) (of_text p t' r') = one_result (decoded bytes) o p r r'
 
+  text_answered_once : (bytes : List ℕ) (o p : Outcome) → TextAnswered g bytes o → TextAnswered g bytes p → o ≡ p
+  text_answered_once bytes o p h k = one_text_result bytes o p (text_result bytes o h) (text_result bytes p k)
+
+-- ---- one outcome of a text whose figures are asked for
+
+module _ (g : Grammar) (bytes : List ℕ) where
+  data Figured : Outcome → Type 0 where
+    with_figures : (counts : Counts) (gs : Givens) (state : State) (plan : Parts) → TextAnswered g bytes (document gs state) → IsCounted g (decoded bytes) plan counts → Figured (summarised (length bytes) counts (length (xml gs state)))
+    in_place_of_one : (o : Outcome) → ((gs : Givens) (state : State) → o ≢ document gs state) → TextAnswered g bytes o → Figured o
+
+  figured : (o : Outcome) → Measured g bytes o → Figured o
+  figured (document gs state) h = absurd h
+  figured (summarised text counts output) (gs, state, h, plan, c, e, f) =
+      subst (λ n. Figured (summarised n counts output)) (sym e) (subst (λ n. Figured (summarised (length bytes) counts n)) (sym f) (with_figures counts gs state plan h c))
+  figured o h = in_place_of_one o (λ gs state e. cc e) h
+
+  one_figured : (o p : Outcome) → Figured o → Figured p → o ≡ p
+  one_figured _ _ (with_figures a gs state plan h c) (with_figures b hs other qlan k d) =
+      let same : document gs state ≡ document hs other = text_answered_once g bytes _ _ h k in
+      let counted : a ≡ b = figures_are_one g (decoded bytes) plan qlan a b c d in
+      cc (same, counted)
+  one_figured _ _ (with_figures a gs state plan h c) (in_place_of_one o n k) = absurd (n gs state (text_answered_once g bytes _ _ k h))
+  one_figured _ _ (in_place_of_one o n h) (with_figures b hs other qlan k d) = absurd (n hs other (text_answered_once g bytes _ _ h k))
+  one_figured _ _ (in_place_of_one o n h) (in_place_of_one p m k) = text_answered_once g bytes o p h k
+
+  -- a text whose figures are asked for has one outcome
+  pub measured_once : (o p : Outcome) → Measured g bytes o → Measured g bytes p → o ≡ p
+  measured_once o p h k = one_figured o p (figured o h) (figured p k)
+
 -- ---- one answer
 
-module _ (words : List (List ℕ)) (map : List ℕ → Option (List ℕ)) where
+-- bytes that hold a conforming grammar hold no other
+pub held_grammar : (bytes : List ℕ) (g h : Grammar) → HoldsConforming bytes g → HoldsConforming bytes h → g ≡ h
+held_grammar bytes g h p q = spelled_once (decoded bytes) g h p.0.1 q.0.1
+
+module _ (map : List ℕ → Option (List ℕ)) where
   held_once : (name bytes other : List ℕ) → map name ≡ Some bytes → map name ≡ Some other → other ≡ bytes
   held_once name bytes other h k = let x : Some other ≡ Some bytes = sym k ∙ h in cc x
 
@@ -220,26 +237,22 @@ module _ (words : List (List ℕ)) (map : List ℕ → Option (List ℕ)) where
   one_of_text text bytes o p (inl h) (inr (g, k, s, e, t)) = absurd (refused_or_held bytes o g h k)
   one_of_text text bytes o p (inr (g, h, s, e, t)) (inl k) = absurd (refused_or_held bytes p g k h)
   one_of_text text bytes o p (inr (g, h, s, e, t)) (inr (g', k, s', e', t')) =
-      let same : g' ≡ g = spelled_once (decoded bytes) g' g k.0.1 h.0.1 in
-      let u : TextAnswered g s p = subst (λ x. TextAnswered x s p) same (subst (λ x. TextAnswered g' x p) (held_once text s s' e e') t') in
-      one_text_result g s o p (text_result g s o t) (text_result g s p u)
+      let u : TextAnswered g s p = subst (λ x. TextAnswered x s p) (held_grammar bytes g' g k h) (subst (λ x. TextAnswered g' x p) (held_once text s s' e e') t') in
+      text_answered_once g s o p t u
 
-  pub answered_once : (o p : Outcome) → Answered words map o → Answered words map p → o ≡ p
-  answered_once o p (inl (n, e)) (inl (k, f)) = e ∙ sym f
-  answered_once o p (inl (n, e)) (inr (inl (name, bytes, c, m, r))) = absurd (n (check name) c)
-  answered_once o p (inl (n, e)) (inr (inr (gr, t, bytes, w, c, m, r))) = absurd (n (parse gr t w) c)
-  answered_once o p (inr (inl (name, bytes, c, m, r))) (inl (n, e)) = absurd (n (check name) c)
-  answered_once o p (inr (inr (gr, t, bytes, w, c, m, r))) (inl (n, e)) = absurd (n (parse gr t w) c)
-  answered_once o p (inr (inl (name, bytes, c, m, r))) (inr (inr (gr, t, bytes', w, c', m', r'))) = absurd (let q : check name ≡ parse gr t w = command_is_one words (check name) (parse gr t w) c c' in cc q)
-  answered_once o p (inr (inr (gr, t, bytes', w, c', m', r'))) (inr (inl (name, bytes, c, m, r))) = absurd (let q : check name ≡ parse gr t w = command_is_one words (check name) (parse gr t w) c c' in cc q)
-  answered_once o p (inr (inl (name, bytes, c, m, r))) (inr (inl (name', bytes', c', m', r'))) =
-      let q : check name' ≡ check name = command_is_one words (check name') (check name) c' c in
-      let x : name' ≡ name = cc q in
-      let y = held_once name bytes bytes' m (subst (λ z. map z ≡ Some bytes') x m') in
-      one_checked bytes o p r (subst (λ z. GrammarRefused z p ⊎ ((g : Grammar) × HoldsConforming z g × (p ≡ conforms))) y r')
-  answered_once o p (inr (inr (gr, t, bytes, w, c, m, r))) (inr (inr (gr', t', bytes', w', c', m', r'))) =
-      let q : parse gr' t' w' ≡ parse gr t w = command_is_one words (parse gr' t' w') (parse gr t w) c' c in
-      let x : gr' ≡ gr = cc q in
-      let v : t' ≡ t = cc q in
-      let y = held_once gr bytes bytes' m (subst (λ z. map z ≡ Some bytes') x m') in
-      one_of_text t bytes o p r (subst (λ z. OfText z bytes p) v (subst (λ z. OfText t' z p) y r'))
+  -- a command has one answer
+  pub command_answered_once : (command : Command) (o p : Outcome) → CommandAnswered map command o → CommandAnswered map command p → o ≡ p
+  command_answered_once (check name) o p (bytes, m, r) (other, n, q) =
+      one_checked bytes o p r (subst (λ z. GrammarRefused z p ⊎ ((g : Grammar) × HoldsConforming z g × (p ≡ conforms))) (held_once name bytes other m n) q)
+  command_answered_once (parse grammar text workers) o p (bytes, m, r) (other, n, q) =
+      one_of_text text bytes o p r (subst (λ z. OfText text z p) (held_once grammar bytes other m n) q)
+  command_answered_once (sample lines workers) o p (g, h, r) (g', k, q) =
+      measured_once g (sample_text lines) o p r (subst (λ z. Measured z (sample_text lines) p) (held_grammar sample_grammar g' g k h) q)
+
+-- words and files have one answer
+pub answered_once : (words : List (List ℕ)) (map : List ℕ → Option (List ℕ)) (o p : Outcome) → Answered words map o → Answered words map p → o ≡ p
+answered_once words map o p (inl (n, e)) (inl (m, f)) = e ∙ sym f
+answered_once words map o p (inl (n, e)) (inr (command, c, h)) = absurd (n command c)
+answered_once words map o p (inr (command, c, h)) (inl (n, e)) = absurd (n command c)
+answered_once words map o p (inr (command, c, h)) (inr (other, d, k)) =
+    command_answered_once map command o p h (subst (λ x. CommandAnswered map x p) (command_is_one words other command d c) k)

@@ -1,5 +1,4 @@
 pub mod Answering
-pub mod CountsOnce
 pub mod DescriptorCounts
 pub mod FurthestDots
 pub mod SmallCounts

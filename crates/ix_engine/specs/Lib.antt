@@ -2,7 +2,6 @@ pub mod Answers
 pub mod Compiled
 pub mod Examples
 pub mod Faults
-pub mod Laws
 pub mod Parsed
 pub mod PlanFor
 pub mod Refusals

@@ -14,7 +14,6 @@ ghost use Rattle.ix_engine.specs.Compiled.{IsRefusalOf};
 ghost use Rattle.ix_model.specs.Closure.Counting.{Lists, HasCount};
 ghost use Rattle.ix_engine.specs.Examples.{a_counts, b_counts, a_marked, empty_marked};
 ghost use Rattle.ix_engine.specs.Faults.{of_text};
-ghost use Rattle.ix_engine.specs.Laws.{CountsAreOne};
 ghost use Rattle.ix_model.specs.Closure.Figures.{AreCounts, IsCounted};
 ghost use Rattle.ix_engine.specs.Parsed.{IsOutcome, IsFault};
 ghost use Rattle.ix_engine.specs.PlanFor.{IsPlanFor};
@@ -28,11 +27,6 @@ pub fn no_bytes()
     ensures no_grammar { IsRefusalOf [] NotIxml }
     ensures not_long { ¬ (IsRefusalOf [] FileTooLong) }
     ensures not_deep { ¬ (IsRefusalOf [] TooDeep) }
-{}
-
-/// No plan has two figures.
-pub fn counts_are_one()
-    ensures { CountsAreOne }
 {}
 
 /// Each reason why a derivation is no document is its own, with its own item.

@@ -68,6 +68,8 @@ fn parsed(alloc: Global, plan: Plan, closed: &Closed) -> Result<Outcome, ParseFa
     ensures err { (g : AGrammar) (bytes : List ℕ) → IsPlanFor g bytes plan → IfErr result (IsFault g bytes) }
 {
     names_are_distinct();
+    // What holds of each plan.
+    let _ = plan.slot_count();
     let marked = first_marked(alloc, &plan, &closed.set)?;
     if let Some(fault) = refused(alloc, &plan, &marked)? {
         return Err(ParseFault::Dynamic(fault));

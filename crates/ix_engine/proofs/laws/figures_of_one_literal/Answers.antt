@@ -3,10 +3,11 @@ use Rattle.std.specs.Str.{chars}
 use lib.Utf8.{encode}
 use Rattle.ix_model.specs.declared.counts.Counts.{Counts}
 use Rattle.ix_examples.specs.SmallPlans.{only_a}
+use Rattle.ix_examples.proofs.SmallPlans.{planned_a}
 use Rattle.ix_examples.proofs.SmallTexts.{first}
 use Rattle.ix_worked_examples.proofs.SmallRules.{plan_of_a}
 use Rattle.ix_engine.specs.Examples.{a_counts, b_counts}
-use Rattle.ix_engine.proofs.CountsOnce.{counts_are_one}
+use Rattle.ix_figure_laws.proofs.CountsOnce.{counts_are_one}
 use Rattle.ix_engine.proofs.SmallCounts.{counts_on_a, counts_on_b}
 use Rattle.ix_engine.proofs.laws.figures_of_one_literal.Goals as goal
 
@@ -24,7 +25,7 @@ returns-clause-not_on_a c = λ h. omega (arith, ap (λ (z : Counts). z.subtrees)
 
 pub returns-clause-counted : goal.returns-clause-counted
 unfolding chars
-returns-clause-counted c = record { plan_of = plan_of_a; text = refl; counts_of = counts_on_a }
+returns-clause-counted c = record { plan_of = plan_of_a; planned = planned_a; text = refl; counts_of = counts_on_a }
 
 pub returns-clause-other_text : goal.returns-clause-other_text
 unfolding chars

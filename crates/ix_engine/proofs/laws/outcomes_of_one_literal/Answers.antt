@@ -7,7 +7,7 @@ use Rattle.ix_model.specs.Documents.Gives.{Givens, gives_root}
 use Rattle.ix_examples.specs.SmallGivens.{text_of, document}
 use Rattle.ix_examples.specs.SmallGrammars as grammars
 use Rattle.ix_examples.specs.SmallPlans.{only_a}
-use Rattle.ix_examples.proofs.SmallPlans.{planned_b}
+use Rattle.ix_examples.proofs.SmallPlans.{planned_a, planned_b}
 use Rattle.ix_examples.proofs.SmallTexts.{first, one_a}
 use Rattle.ix_marks.specs.Pieces.{pieces}
 use Rattle.ix_offset_laws.proofs.FurthestOffset.{offset_of, furthest_of, furthest_is_one}
@@ -15,7 +15,7 @@ use Rattle.ix_offset_laws.proofs.SmallDots.{furthest_of_b}
 use Rattle.ix_worked_examples.proofs.SmallAnswers.{a_parsed}
 use Rattle.ix_worked_examples.proofs.SmallRules.{plan_of_a}
 use Rattle.ix_engine.specs.Examples.{a_counts, b_counts}
-use Rattle.ix_engine.proofs.CountsOnce.{counts_are_one}
+use Rattle.ix_figure_laws.proofs.CountsOnce.{counts_are_one}
 use Rattle.ix_engine.proofs.SmallCounts.{counts_on_a, counts_on_b, plan_of_b}
 use Rattle.ix_engine.proofs.laws.outcomes_of_one_literal.Goals as goal
 
@@ -26,7 +26,7 @@ returns-clause-tree c = (
   ((omega arith, (codes "a", (refl, refl))), a_parsed),
   record { items = refl; top = refl },
   record { items_in = ((omega arith, omega arith, omega arith), ((omega arith, omega arith), (omega arith, tt))); attrs_in = tt; top_in = tt; runs_fit = omega arith },
-  record { plan_of = plan_of_a; text = refl; counts_of = counts_on_a },
+  record { plan_of = plan_of_a; planned = planned_a; text = refl; counts_of = counts_on_a },
 )
 
 pub returns-clause-ambiguous : goal.returns-clause-ambiguous
@@ -52,7 +52,7 @@ unfolding chars encode
 returns-clause-failed c = (
   ((omega arith, (codes "b", (refl, refl))), ((λ d h. absurd (omega (arith, ap first (one_a (codes "b") d h).1.2))), offset_of grammars.only_a (only_a (codes "b")) plan_of_b planned_b 0 furthest_of_b, refl, refl)),
   only_a (codes "b"),
-  record { plan_of = plan_of_b; text = refl; counts_of = counts_on_b },
+  record { plan_of = plan_of_b; planned = planned_b; text = refl; counts_of = counts_on_b },
 )
 
 pub returns-clause-other_offset : goal.returns-clause-other_offset

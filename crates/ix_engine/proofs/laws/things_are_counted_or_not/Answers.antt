@@ -1,6 +1,6 @@
 use Rattle.std.proofs.Common.{ℕ, [], ◌∷◌, ◌≡◌, refl, arith}
 use Rattle.ix_model.specs.Closure.Counting.{HasCount}
-use Rattle.ix_engine.proofs.CountsOnce.{count_is_one}
+use Rattle.ix_figure_laws.proofs.CountsOnce.{count_is_one}
 use Rattle.ix_engine.proofs.SmallCounts.{lists_zero}
 use Rattle.ix_engine.proofs.laws.things_are_counted_or_not.Goals as goal
 

@@ -28,5 +28,5 @@ returns c = λ g bytes is.
           (c.place-place.ensures.line ∙ ap (λ (s : List ℕ). line_of s offset) c.text.ensures)
           (c.place-place.ensures.column ∙ ap (λ (s : List ℕ). column_of s offset) c.text.ensures),
       plan,
-      record { plan_of = is.plan_of; text = is.text; counts_of = c.requires.counts },
+      record { plan_of = is.plan_of; planned = planned; text = is.text; counts_of = c.requires.counts },
     )

@@ -33,5 +33,5 @@ returns-clause-ok c = λ g bytes is.
       answers_document g bytes c.args.plan is gs c.state_of-state.result first.0 first.1 refl none (c.state_of-state.ensures g is.plan_of),
       first.2,
       c.in_ok-marked.ensures.there,
-      record { plan_of = is.plan_of; text = is.text; counts_of = c.requires.counts },
+      record { plan_of = is.plan_of; planned = c.slot_count.ensures.planned; text = is.text; counts_of = c.requires.counts },
     )

@@ -1,0 +1,5 @@
+pub mod CountsOnce
+pub mod FiguresOnce
+pub mod SameClosure
+pub mod SameRules
+pub mod SameTrees

@@ -1,0 +1,4 @@
+//! That the sample's grammar is a conforming one.
+#![tactic(auto)]
+
+pub mod laws;
