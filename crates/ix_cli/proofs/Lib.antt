@@ -6,6 +6,10 @@ pub mod OneReply
 pub mod Outputs
 pub mod Refusing
 pub mod Replies
+pub mod SmallChecks
+pub mod SmallFigures
 pub mod SmallReplies
+pub mod SmallSamples
+pub mod SmallWords
 pub mod Statuses
 pub mod Writing

@@ -10,7 +10,8 @@ use Rattle.std.specs.Str.{chars, is_utf8}
 use Rattle.std.specs.Str.Lossy.{utf8_valid_len}
 use Rattle.ix_model.specs.declared.grammar.Grammar.{Grammar}
 use Rattle.ix_model.specs.declared.state.State.TheVariants.{Single, Ambiguous}
-use Rattle.ix_model.specs.Answers.Answer.{HoldsConforming, GrammarRefused, TextAnswered}
+use Rattle.ix_model.specs.Answers.Answer.{HoldsConforming, GrammarRefused, TextAnswered, CommandAnswered}
+use Rattle.ix_model.specs.Answers.CommandLine.{Command, parse}
 use Rattle.ix_model.specs.Answers.Limits.{text_limit}
 use Rattle.ix_model.specs.Answers.Outcome.{Outcome, document, failed, no_form, no_grammar, grammar_too_long, grammar_not_utf8, text_too_long, text_not_utf8, status_of, output_of}
 use Rattle.ix_model.specs.Spelling.Characters.{is_blank, is_name_start, is_name_part}
@@ -22,26 +23,20 @@ use Rattle.ix_spelling_laws.proofs.ByReading.{reads, reads_none}
 use Rattle.ix_worked_examples.proofs.SmallAnswers.{parses_g_t, not_utf8, a_parsed, a_parsed_twice, ab_failed}
 use Rattle.ix_cli.specs.Answered.{IsAnswered, IsCutOff}
 use Rattle.ix_edge.specs.Told.{Told, held}
+use Rattle.ix_answer_laws.proofs.Commands.{no_words}
 use Rattle.ix_answer_laws.proofs.OneAnswer.{refused_or_held}
-use Rattle.ix_cli.specs.Causes.{OfText, IsCaused}
+use Rattle.ix_cli.specs.Causes.{Parses, OfText, IsCaused}
 use Rattle.ix_cli.specs.Examples.{holding, without_text, raised, no_count}
-use Rattle.ix_cli.specs.Form.{HasForm, HasSomeForm}
 use Rattle.ix_cli.specs.Says.{Says}
 use Rattle.ix_cli.specs.Table.{IsReply}
-use Rattle.ix_cli.specs.Unread.{IsUnread, HoldsSome}
+use Rattle.ix_cli.specs.Unread.{IsNext, IsUnread, HoldsSome}
 use Rattle.ix_cli.proofs.Caused.{reply_caused}
-use Rattle.ix_cli.proofs.Forms.{names, one_form}
 use Rattle.ix_cli.proofs.Options.{some_is}
 use Rattle.ix_cli.proofs.OneReply.{one_reply}
+use Rattle.ix_cli.proofs.SmallWords.{of_parse}
 
-pub has_form : HasForm parse_g_t (codes "g") (codes "t")
-has_form = (refl, (λ e. omega (arith, e)), (λ e. omega (arith, e)))
-
-pub has_some_form : HasSomeForm parse_g_t
-has_some_form = (codes "g", codes "t", has_form)
-
-pub no_words_form : ¬ (HasSomeForm [])
-no_words_form h = absurd (cc h.2.0)
+abbrev pub parsing : Command
+parsing = parse (codes "g") (codes "t") 2
 
 -- ---- grammars
 
@@ -59,41 +54,50 @@ unfolding is_blank is_name_start is_name_part general_category value_in general_
 nothing_refused = ((omega arith, ([], (refl, refl))), reads_none _ refl)
 
 pub no_grammar_here : (text : List ℕ) → IsReply parse_g_t (holding [] text) no_grammar
-no_grammar_here text = inr (has_some_form, (codes "g", codes "t", [], 2, parses_g_t, refl, inl nothing_refused))
+no_grammar_here text = inr (parsing, parses_g_t, [], refl, inl nothing_refused)
 
 pub no_grammar_alone : IsReply parse_g_t (without_text []) no_grammar
-no_grammar_alone = inr (has_some_form, (codes "g", codes "t", [], 2, parses_g_t, refl, inl nothing_refused))
+no_grammar_alone = inr (parsing, parses_g_t, [], refl, inl nothing_refused)
 
 pub long_grammar : (bytes : List ℕ) → length bytes ≡ 1048577 → IsReply parse_g_t (holding bytes []) grammar_too_long
-long_grammar bytes e = inr (has_some_form, (codes "g", codes "t", bytes, 2, parses_g_t, refl, inl (omega (arith, e))))
+long_grammar bytes e = inr (parsing, parses_g_t, bytes, refl, inl (omega (arith, e)))
 
 pub other_grammar : (bytes : List ℕ) → length bytes ≡ 1048576 → ¬ (IsUtf8 bytes) → IsReply parse_g_t (holding bytes []) (grammar_not_utf8 (utf8_valid_len bytes))
-other_grammar bytes e n = inr (has_some_form, (codes "g", codes "t", bytes, 2, parses_g_t, refl, inl (omega (arith, e), n, refl)))
+other_grammar bytes e n = inr (parsing, parses_g_t, bytes, refl, inl (omega (arith, e), n, refl))
 
 -- ---- texts
 
 -- the files hold a text for `S: "a".`
-under_one_way : (s : List ℕ) (o : Outcome) → TextAnswered grammars.only_a s o → IsReply parse_g_t (holding one_way s) o
-under_one_way s o h = inr (has_some_form, (codes "g", codes "t", one_way, 2, parses_g_t, refl, inr (grammars.only_a, holds_one_way, s, refl, h)))
+pub under_one_way : (s : List ℕ) (o : Outcome) → TextAnswered grammars.only_a s o → IsReply parse_g_t (holding one_way s) o
+under_one_way s o h = inr (parsing, parses_g_t, one_way, refl, inr (grammars.only_a, holds_one_way, s, refl, h))
 
 abbrev pub a_document : Outcome
 a_document = document (element_with (text_of (codes "a"))) Single
 
-pub answered : IsReply parse_g_t (holding one_way (codes "a")) a_document
+pub a_answered : TextAnswered grammars.only_a (codes "a") a_document
 unfolding chars encode
-answered = under_one_way (codes "a") _ ((omega arith, (codes "a", (refl, refl))), a_parsed)
+a_answered = ((omega arith, (codes "a", (refl, refl))), a_parsed)
+
+pub answered : IsReply parse_g_t (holding one_way (codes "a")) a_document
+answered = under_one_way (codes "a") _ a_answered
 
 pub answered_twice : IsReply parse_g_t (holding both_ways (codes "a")) (document (element_with (text_of (codes "a"))) Ambiguous)
 unfolding chars encode
-answered_twice = inr (has_some_form, (codes "g", codes "t", both_ways, 2, parses_g_t, refl, inr (grammars.two_ways, holds_both_ways, codes "a", refl, ((omega arith, (codes "a", (refl, refl))), a_parsed_twice))))
+answered_twice = inr (parsing, parses_g_t, both_ways, refl, inr (grammars.two_ways, holds_both_ways, codes "a", refl, ((omega arith, (codes "a", (refl, refl))), a_parsed_twice)))
+
+pub ab_answered : TextAnswered grammars.only_a (codes "ab") (failed 1 1 2)
+unfolding chars encode
+ab_answered = ((omega arith, (codes "ab", (refl, refl))), ab_failed)
 
 pub no_derivation : IsReply parse_g_t (holding one_way (codes "ab")) (failed 1 1 2)
-unfolding chars encode
-no_derivation = under_one_way (codes "ab") _ ((omega arith, (codes "ab", (refl, refl))), ab_failed)
+no_derivation = under_one_way (codes "ab") _ ab_answered
+
+pub text_of_no_characters : CommandAnswered (held (holding one_way (97 ∷ 195 ∷ []))) parsing (text_not_utf8 1)
+unfolding utf8_valid_len is_utf8 chars encode
+text_of_no_characters = (one_way, refl, inr (grammars.only_a, holds_one_way, 97 ∷ 195 ∷ [], refl, (omega arith, not_utf8 _ refl, refl)))
 
 pub no_text_here : IsReply parse_g_t (holding one_way (97 ∷ 195 ∷ [])) (text_not_utf8 1)
-unfolding utf8_valid_len is_utf8 chars encode
-no_text_here = under_one_way (97 ∷ 195 ∷ []) _ (omega arith, not_utf8 _ refl, refl)
+no_text_here = inr (parsing, parses_g_t, text_of_no_characters)
 
 pub long_text : (bytes : List ℕ) → length bytes ≡ 16777217 → IsReply parse_g_t (holding one_way bytes) text_too_long
 long_text bytes e = under_one_way bytes _ (omega (arith, e))
@@ -115,7 +119,7 @@ module _ (o : Outcome) where
 
   pub no_words_reply : (files : Told) → IsReply [] files o → o ≡ no_form
   no_words_reply files (inl h) = h.1
-  no_words_reply files (inr h) = absurd (no_words_form h.0)
+  no_words_reply files (inr h) = absurd (no_words h.0 h.1)
 
 -- ---- causes
 
@@ -127,28 +131,22 @@ no_text_caused = reply_caused parse_g_t (holding one_way (97 ∷ 195 ∷ [])) _ 
 
 -- where the files lack the text there is no answer
 pub nothing_without_text : (o : Outcome) → ¬ (IsReply parse_g_t (without_text one_way) o)
-nothing_without_text o (inl h) = h.0 has_some_form
-nothing_without_text o (inr ((grammar', text', form'), (grammar, text, bytes, workers, command, e, rest))) = by_rest rest
+nothing_without_text o (inl h) = h.0 parsing parses_g_t
+nothing_without_text o (inr (command, is, h)) = by_command (of_parse (λ c. CommandAnswered (held (without_text one_way)) c o) command is h)
   where
-    named : (grammar ≡ codes "g") × (text ≡ codes "t")
-    named = one_form parse_g_t (codes "g") (codes "t") grammar text has_form (names parse_g_t grammar' text' grammar text workers form' command)
-
-    is_one_way : one_way ≡ bytes
-    is_one_way = some_is (subst (λ n. held (without_text one_way) n ≡ Some bytes) named.0 e)
-
-    by_rest : GrammarRefused bytes o ⊎ ((g : Grammar) × HoldsConforming bytes g × (s : List ℕ) × (held (without_text one_way) text ≡ Some s) × TextAnswered g s o) → ⊥
-    by_rest (inl r) = refused_or_held one_way o grammars.only_a (subst (λ b. GrammarRefused b o) (sym is_one_way) r) holds_one_way
-    by_rest (inr (g, h, s, f, a)) = absurd (cc (subst (λ n. held (without_text one_way) n ≡ Some s) named.1 f))
+    by_command : CommandAnswered (held (without_text one_way)) parsing o → ⊥
+    by_command (bytes, e, inl r) = refused_or_held one_way o grammars.only_a (subst (λ b. GrammarRefused b o) (sym (some_is e)) r) holds_one_way
+    by_command (bytes, e, inr (g, h, s, f, a)) = absurd (cc f)
 
 -- a text of the greatest length is not too long
 pub not_long_text : (bytes : List ℕ) → length bytes ≡ 16777216 → ¬ (IsCaused parse_g_t (holding one_way bytes) 6)
 not_long_text bytes e h = by_cause (h.too_long.0 refl)
   where
     by_cause : OfText parse_g_t (holding one_way bytes) (λ g s. text_limit < length s) → ⊥
-    by_cause (grammar, text, more, s, g, form, q, c, f, less) =
-        let n = one_form parse_g_t (codes "g") (codes "t") grammar text has_form form in
-        let same : bytes ≡ s = some_is (subst (λ x. held (holding one_way bytes) x ≡ Some s) n.1 f) in
-        omega (arith, e, less, ap (λ (xs : List ℕ). length xs) same)
+    by_cause (command, is, g, s, parses, less) = by_parse (of_parse (λ c. Parses (holding one_way bytes) c g s) command is parses)
+      where
+        by_parse : Parses (holding one_way bytes) parsing g s → ⊥
+        by_parse (more, q, c, f) = omega (arith, e, less, ap (λ (xs : List ℕ). length xs) (some_is f))
 
 -- ---- what was written
 
@@ -158,14 +156,14 @@ Said = Says (Some []) (Some []) 0 0
 abbrev Replied : List ℕ → ℕ → Type 0
 Replied bytes status = IsAnswered parse_g_t (Some (holding one_way (codes "a"))) (Some []) (Some bytes) status Said
 
-one_document : output_of a_document ≡ codes "<S>a</S>\n"
+pub one_document : output_of a_document ≡ codes "<S>a</S>\n"
 unfolding encode
 one_document = refl
 
 pub written_whole : Replied (codes "<S>a</S>\n") 0
 written_whole = (a_document, answered, refl, sym one_document, λ n. refl)
 
-the_output : (o : Outcome) → IsReply parse_g_t (holding one_way (codes "a")) o → output_of o ≡ codes "<S>a</S>\n"
+pub the_output : (o : Outcome) → IsReply parse_g_t (holding one_way (codes "a")) o → output_of o ≡ codes "<S>a</S>\n"
 the_output o h = sym (ap output_of (the_document o h)) ∙ one_document
 
 pub not_shorter : ¬ (Replied (codes "<S>a</S>") 0)
@@ -205,19 +203,24 @@ none_in_nothing : (g : Grammar) → ¬ (HoldsConforming [] g)
 unfolding is_blank is_name_start is_name_part general_category value_in general_category_rows chars encode
 none_in_nothing g h = reads_none [] refl g h.0.1
 
-none_held : (bytes : List ℕ) → bytes ≡ [] → (g : Grammar) → ¬ (HoldsConforming bytes g)
+pub none_held : (bytes : List ℕ) → bytes ≡ [] → (g : Grammar) → ¬ (HoldsConforming bytes g)
 none_held bytes e g h = none_in_nothing g (subst (λ b. HoldsConforming b g) e h)
+
+pub not_held_some : ¬ (HoldsSome (Some (holding [] [])) (codes "g"))
+not_held_some h = none_held h.0 (sym (some_is h.1)) h.2.0 h.2.1
 
 -- the text is not read where the files hold no grammar
 pub text_after_grammar : ¬ (IsUnread parse_g_t (Some (holding [] [])) no_count (raised (codes "t")) (codes "t"))
-unfolding first_or
-text_after_grammar h = by_name h.4
+text_after_grammar (command, is, rose, next) = by_next (of_parse (λ c. IsNext (Some (holding [] [])) c (codes "t")) command is next)
   where
-    grammar_is : h.0 ≡ codes "g"
-    grammar_is = let e : parse_g_t ≡ codes "parse" ∷ h.0 ∷ h.1 ∷ [] = h.2.0 in cc e
+    by_next : IsNext (Some (holding [] [])) parsing (codes "t") → ⊥
+    by_next (inl e) = absurd (cc e)
+    by_next (inr (e, h)) = not_held_some h
 
-    by_name : (codes "t" ≡ h.0) ⊎ ((codes "t" ≡ h.1) × HoldsSome (Some (holding [] [])) h.0) → ⊥
-    by_name (inl e) = let f : codes "t" ≡ codes "g" = e ∙ grammar_is in omega (arith, ap (first_or 0) f)
-    by_name (inr e) =
-        let x : HoldsSome (Some (holding [] [])) (codes "g") = subst (HoldsSome (Some (holding [] []))) grammar_is e.1 in
-        none_held x.0 (cc x.1) x.2.0 x.2.1
+-- nor is a file that is not named
+pub other_unread : ¬ (IsUnread parse_g_t (Some (holding [] [])) no_count (raised (codes "x")) (codes "x"))
+other_unread (command, is, rose, next) = by_next (of_parse (λ c. IsNext (Some (holding [] [])) c (codes "x")) command is next)
+  where
+    by_next : IsNext (Some (holding [] [])) parsing (codes "x") → ⊥
+    by_next (inl e) = absurd (cc e)
+    by_next (inr (e, h)) = absurd (cc e)

@@ -1,7 +1,10 @@
--- Files and counts that the worked examples speak of.
+-- Words, files and counts that the worked examples speak of.
 use Rattle.std.specs.Prelude.{ℕ, List, [], ◌∷◌, false, codes, if◌then◌else◌}
 use Rattle.std.specs.Str.{bytes_eq}
 use Rattle.ix_edge.specs.Told.{Told}
+
+abbrev pub sample_1 : List (List ℕ)
+sample_1 = codes "sample" ∷ codes "1" ∷ []
 
 -- files that hold a grammar under `g` and a text under `t`, and no other name
 abbrev pub holding : List ℕ → List ℕ → Told

@@ -2,27 +2,38 @@
 //! empty.
 ghost use Rattle.std.specs.Prelude.{◌≡◌, ℕ, List, [], ◌∷◌, Some, None, String, Vec, IsUtf8, codes, length, string_bytes};
 ghost use Rattle.std.specs.declared.alloc.Global.{Global};
+ghost use Rattle.ix_model.specs.declared.counts.Counts.{Counts};
+ghost use Rattle.ix_model.specs.declared.grammar.Grammar.{Grammar};
+ghost use Rattle.ix_model.specs.declared.state.State.{State};
 ghost use Rattle.ix_model.specs.declared.state.State.TheVariants.{Single, Ambiguous};
-ghost use Rattle.ix_model.specs.Answers.Outcome.{Outcome, no_form, no_grammar, text_too_long, text_not_utf8, failed, refused, document, message_of};
+ghost use Rattle.ix_model.specs.Answers.CommandLine.{parse, check, sample};
+ghost use Rattle.ix_model.specs.Answers.Outcome.{Outcome, no_form, no_grammar, conforms, text_too_long, text_not_utf8, failed, refused, document, summarised, message_of};
 ghost use Rattle.ix_model.specs.Documents.Dyn.{attribute_xmlns};
+ghost use Rattle.ix_model.specs.Documents.Gives.{Givens};
+ghost use Rattle.ix_edge.specs.Told.{Told};
 ghost use Rattle.ix_engine.specs.declared.outcome.ParseFault.TheVariants as fault;
+ghost use Rattle.ix_engine.specs.declared.refusal.Refusal.{Refusal};
 ghost use Rattle.ix_engine.specs.declared.refusal.Refusal.TheVariants as refusal;
-ghost use Rattle.ix_examples.specs.SmallAnswers.{parse_g_t, one_way, both_ways};
+ghost use Rattle.ix_examples.specs.SmallAnswers.{check_g, parse_g_t, one_way, both_ways};
 ghost use Rattle.ix_examples.specs.SmallGivens.{text_of, document as element_with};
+ghost use Rattle.ix_examples.specs.SmallGrammars.{only_a, two_ways};
+ghost use Rattle.ix_sample_laws.specs.SampleRules.{sample_rules};
+ghost use Rattle.ix_words.specs.declared.command.WordsFault.TheVariants as words;
 ghost use Rattle.ix_cli.specs.declared.answer.Answer.TheVariants as answer;
+ghost use Rattle.ix_cli.specs.declared.output.Output.{Output};
 ghost use Rattle.ix_cli.specs.Answered.{IsAnswered, IsCutOff, IsMessage};
-ghost use Rattle.ix_cli.specs.Causes.{IsCaused};
-ghost use Rattle.ix_cli.specs.Examples.{holding, without_text, raised, no_count};
-ghost use Rattle.ix_cli.specs.Form.{HasForm, HasSomeForm};
+ghost use Rattle.ix_cli.specs.Causes.{Parses, IsChecked, IsCaused};
+ghost use Rattle.ix_cli.specs.Examples.{sample_1, holding, without_text, raised, no_count};
 ghost use Rattle.ix_cli.specs.Laws.{ReplyIsOne, ReplyIsCaused};
 ghost use Rattle.ix_cli.specs.Lines.{memory_line, write_line};
 ghost use Rattle.ix_cli.specs.Loaded.{Holds, IsLoadFault, IsGrammarFault};
-ghost use Rattle.ix_cli.specs.Means.{of_refusal, of_fault};
-ghost use Rattle.ix_cli.specs.Refused.{IsRefused};
+ghost use Rattle.ix_cli.specs.Means.{of_words, of_refusal, of_fault};
+ghost use Rattle.ix_cli.specs.Named.{HasCommand, ReadsGrammar, ReadsText, Names};
+ghost use Rattle.ix_cli.specs.Refused.{IsRefusedFor, IsRefused};
 ghost use Rattle.ix_cli.specs.Says.{Says};
-ghost use Rattle.ix_cli.specs.Shown.{Shows};
+ghost use Rattle.ix_cli.specs.Shown.{Shows, ShowsText, ShowsFigures, ShowsCommand, ShowsReply};
 ghost use Rattle.ix_cli.specs.Table.{IsReply};
-ghost use Rattle.ix_cli.specs.Unread.{IsUnread};
+ghost use Rattle.ix_cli.specs.Unread.{IsNext, IsUnread};
 ghost use Rattle.ix_cli.specs.Written.{IsWritten};
 
 /// The table has at most one answer for the words and the files.
@@ -35,12 +46,51 @@ pub fn reply_is_caused()
     ensures { ReplyIsCaused }
 {}
 
-/// `parse g t` has the form; without `t`, with `-t` and with another first word it has none.
-pub fn words_with_a_form()
-    ensures form { HasForm (codes "parse" ∷ codes "g" ∷ codes "t" ∷ []) (codes "g") (codes "t") }
-    ensures one_name { ¬ (HasSomeForm (codes "parse" ∷ codes "g" ∷ [])) }
-    ensures dash { ¬ (HasSomeForm (codes "parse" ∷ codes "g" ∷ codes "-t" ∷ [])) }
-    ensures other_word { ¬ (HasSomeForm (codes "check" ∷ codes "g" ∷ codes "t" ∷ [])) }
+/// Words have a command or none.
+pub fn words_with_a_command()
+    ensures parse { HasCommand parse_g_t }
+    ensures check { HasCommand check_g }
+    ensures sample { HasCommand sample_1 }
+    ensures no_words { ¬ (HasCommand []) }
+    ensures one_name { ¬ (HasCommand (codes "parse" ∷ codes "g" ∷ [])) }
+{}
+
+/// `parse` reads a grammar and a text, `check` a grammar alone, and `sample` nothing.
+pub fn files_that_commands_read()
+    ensures grammar { ReadsGrammar (parse (codes "g") (codes "t") 2) (codes "g") }
+    ensures not_text { ¬ (ReadsGrammar (parse (codes "g") (codes "t") 2) (codes "t")) }
+    ensures checked { ReadsGrammar (check (codes "g")) (codes "g") }
+    ensures not_checked { ¬ (ReadsGrammar (check (codes "g")) (codes "t")) }
+    ensures no_grammar { (name : List ℕ) → ¬ (ReadsGrammar (sample 1 2) name) }
+    ensures text { ReadsText (parse (codes "g") (codes "t") 2) (codes "t") }
+    ensures not_grammar { ¬ (ReadsText (parse (codes "g") (codes "t") 2) (codes "g")) }
+    ensures no_checked_text { (name : List ℕ) → ¬ (ReadsText (check (codes "g")) name) }
+    ensures no_text { (name : List ℕ) → ¬ (ReadsText (sample 1 2) name) }
+{}
+
+/// Words name the files that their command reads, and no others.
+pub fn files_that_words_name()
+    ensures grammar { Names parse_g_t (codes "g") }
+    ensures text { Names parse_g_t (codes "t") }
+    ensures other { ¬ (Names parse_g_t (codes "x")) }
+    ensures first_word { ¬ (Names parse_g_t (codes "parse")) }
+    ensures checked { Names check_g (codes "g") }
+    ensures not_checked { ¬ (Names check_g (codes "t")) }
+    ensures sample { (name : List ℕ) → ¬ (Names sample_1 name) }
+    ensures no_words { (name : List ℕ) → ¬ (Names [] name) }
+{}
+
+/// `parse` parses the text that the files hold under the grammar that they hold, `sample` its own text under its own
+/// grammar, and `check` nothing.
+pub fn texts_that_are_parsed()
+    ensures parsed { Parses (holding one_way (codes "a")) (parse (codes "g") (codes "t") 2) only_a (codes "a") }
+    ensures other_text { ¬ (Parses (holding one_way (codes "a")) (parse (codes "g") (codes "t") 2) only_a (codes "ab")) }
+    ensures other_grammar { ¬ (Parses (holding one_way (codes "a")) (parse (codes "g") (codes "t") 2) two_ways (codes "a")) }
+    ensures no_text { (s : List ℕ) → ¬ (Parses (without_text one_way) (parse (codes "g") (codes "t") 2) only_a s) }
+    ensures checked { (g : Grammar) (s : List ℕ) → ¬ (Parses (holding one_way (codes "a")) (check (codes "g")) g s) }
+    ensures sample { Parses (without_text []) (sample 1 2) sample_rules (codes "1:ab\n") }
+    ensures other_number { ¬ (Parses (without_text []) (sample 2 2) sample_rules (codes "1:ab\n")) }
+    ensures not_held { (s : List ℕ) → ¬ (Parses (holding one_way (codes "a")) (sample 1 2) only_a s) }
 {}
 
 /// `S: "a".` has the document `<S>a</S>` for `a`, a failed document for `ab` and none for bytes that are not UTF-8.
@@ -65,6 +115,27 @@ pub fn words_and_grammars()
     ensures has_words { ¬ (IsReply parse_g_t (holding one_way (codes "ab")) no_form) }
 {}
 
+/// A check answers of the grammar alone: whether it is one, whatever the text is.
+pub fn grammars_that_are_checked()
+    ensures conforms { IsReply check_g (holding one_way (97 ∷ 195 ∷ [])) conforms }
+    ensures without_text { IsReply check_g (without_text one_way) conforms }
+    ensures no_grammar { IsReply check_g (without_text []) no_grammar }
+    ensures not_conforming { ¬ (IsReply check_g (holding [] []) conforms) }
+    ensures not_parsed { ¬ (IsReply check_g (holding one_way (codes "ab")) (failed 1 1 2)) }
+    ensures parse { ¬ (IsReply parse_g_t (holding one_way (codes "a")) conforms) }
+    ensures checked { IsChecked check_g (holding one_way []) }
+    ensures not_checked { ¬ (IsChecked check_g (holding [] [])) }
+    ensures by_parse { ¬ (IsChecked parse_g_t (holding one_way (codes "a"))) }
+{}
+
+/// A sample looks at no file, and answers by its figures: its text is the one of its number.
+pub fn samples_that_are_measured()
+    ensures no_document { (files : Told) (gs : Givens) (state : State) → ¬ (IsReply sample_1 files (document gs state)) }
+    ensures other_text { (files : Told) (counts : Counts) (output : ℕ) → ¬ (IsReply sample_1 files (summarised 6 counts output)) }
+    ensures conforms { (files : Told) → ¬ (IsReply sample_1 files conforms) }
+    ensures no_grammar { ¬ (IsReply sample_1 (holding [] []) no_grammar) }
+{}
+
 /// Each status has its cause, and the cause no other status.
 pub fn statuses_with_causes()
     ensures document { IsCaused parse_g_t (holding one_way (codes "a")) 0 }
@@ -74,6 +145,27 @@ pub fn statuses_with_causes()
     ensures no_grammar { IsCaused parse_g_t (holding [] (codes "a")) 3 }
     ensures not_utf8 { IsCaused parse_g_t (holding one_way (97 ∷ 195 ∷ [])) 5 }
     ensures not_derived { ¬ (IsCaused parse_g_t (holding one_way (97 ∷ 195 ∷ [])) 1) }
+{}
+
+/// A check has the status of its grammar, and never one that only a text has.
+pub fn statuses_of_a_check()
+    ensures done { IsCaused check_g (holding one_way (97 ∷ 195 ∷ [])) 0 }
+    ensures no_grammar { IsCaused check_g (holding [] (codes "a")) 3 }
+    ensures not_utf8 { IsCaused check_g (holding (195 ∷ []) (codes "a")) 5 }
+    ensures not_done { ¬ (IsCaused check_g (holding [] (codes "a")) 0) }
+    ensures not_of_text { ¬ (IsCaused check_g (holding one_way (97 ∷ 195 ∷ [])) 5) }
+    ensures never_failed { (files : Told) → ¬ (IsCaused check_g files 1) }
+    ensures never_without_form { (files : Told) → ¬ (IsCaused check_g files 2) }
+    ensures never_no_document { (files : Told) → ¬ (IsCaused check_g files 4) }
+    ensures never_too_long { (files : Told) → ¬ (IsCaused check_g files 6) }
+{}
+
+/// A sample has no status that the files could give.
+pub fn statuses_of_a_sample()
+    ensures never_without_form { (files : Told) → ¬ (IsCaused sample_1 files 2) }
+    ensures never_no_grammar { (files : Told) → ¬ (IsCaused sample_1 files 3) }
+    ensures never_not_utf8 { (files : Told) → ¬ (IsCaused sample_1 files 5) }
+    ensures never_too_long { (files : Told) → ¬ (IsCaused sample_1 files 6) }
 {}
 
 /// A grammar may have 1,048,576 bytes and a text 16,777,216. One more is too long, whatever else is wrong with it.
@@ -106,6 +198,18 @@ pub fn loads_that_fail()
     ensures unread { (name : String Global) → string_bytes name ≡ codes "g" → IsGrammarFault None no_count (raised (codes "g")) (codes "g") (answer.Read name) }
 {}
 
+/// The grammar is the first to be read, and the text is only behind a grammar. A check reads no text, and a sample nothing.
+pub fn files_that_are_next()
+    ensures grammar { IsNext (Some (holding [] [])) (parse (codes "g") (codes "t") 2) (codes "g") }
+    ensures text { IsNext (Some (holding one_way [])) (parse (codes "g") (codes "t") 2) (codes "t") }
+    ensures text_before_grammar { ¬ (IsNext (Some (holding [] [])) (parse (codes "g") (codes "t") 2) (codes "t")) }
+    ensures untold { IsNext None (parse (codes "g") (codes "t") 2) (codes "t") }
+    ensures other { ¬ (IsNext None (parse (codes "g") (codes "t") 2) (codes "x")) }
+    ensures checked { IsNext (Some (holding [] [])) (check (codes "g")) (codes "g") }
+    ensures not_checked { ¬ (IsNext (Some (holding one_way [])) (check (codes "g")) (codes "t")) }
+    ensures sample { (name : List ℕ) → ¬ (IsNext None (sample 1 2) name) }
+{}
+
 /// A grammar whose count rose is unread, a file that the words do not name never is. The text is unread only behind a
 /// grammar.
 pub fn files_that_are_unread()
@@ -114,6 +218,30 @@ pub fn files_that_are_unread()
     ensures text { IsUnread parse_g_t (Some (holding one_way [])) no_count (raised (codes "t")) (codes "t") }
     ensures text_before_grammar { ¬ (IsUnread parse_g_t (Some (holding [] [])) no_count (raised (codes "t")) (codes "t")) }
     ensures not_named { ¬ (IsUnread parse_g_t (Some (holding [] [])) no_count (raised (codes "x")) (codes "x")) }
+    ensures not_checked { ¬ (IsUnread check_g (Some (holding one_way [])) no_count (raised (codes "t")) (codes "t")) }
+{}
+
+/// A command is refused for what its files hold, and only for files that it reads.
+pub fn commands_that_are_refused()
+    ensures grammar { IsRefusedFor (check (codes "g")) (Some (holding [] [])) no_count no_count (answer.Grammar refusal.NotIxml) }
+    ensures not_grammar { ¬ (IsRefusedFor (check (codes "g")) (Some (holding one_way [])) no_count no_count (answer.Grammar refusal.NotIxml)) }
+    ensures text { IsRefusedFor (parse (codes "g") (codes "t") 2) (Some (holding one_way (97 ∷ 195 ∷ []))) no_count no_count (answer.Text (fault.NotUtf8 1)) }
+    ensures shorter { ¬ (IsRefusedFor (parse (codes "g") (codes "t") 2) (Some (holding one_way (97 ∷ 195 ∷ []))) no_count no_count (answer.Text (fault.NotUtf8 0))) }
+    ensures not_checked { ¬ (IsRefusedFor (check (codes "g")) (Some (holding one_way (97 ∷ 195 ∷ []))) no_count no_count (answer.Text (fault.NotUtf8 1))) }
+    ensures sample { (r : Refusal) → ¬ (IsRefusedFor (sample 1 2) (Some (holding [] [])) no_count no_count (answer.Grammar r)) }
+    ensures no_words { ¬ (IsRefusedFor (check (codes "g")) None no_count no_count answer.Words) }
+    ensures write { ¬ (IsRefusedFor (check (codes "g")) None no_count no_count answer.Write) }
+{}
+
+/// Memory may run out at any command, and is no refusal of a grammar or a text. A file that could not be read was the next.
+pub fn commands_that_are_not_finished()
+    ensures memory { IsRefusedFor (sample 1 2) None no_count no_count answer.Memory }
+    ensures not_grammar { ¬ (IsRefusedFor (check (codes "g")) None no_count no_count (answer.Grammar refusal.Memory)) }
+    ensures not_text { ¬ (IsRefusedFor (parse (codes "g") (codes "t") 2) None no_count no_count (answer.Text fault.Memory)) }
+    ensures file { (name : String Global) → string_bytes name ≡ codes "g" → IsRefusedFor (check (codes "g")) None no_count (raised (codes "g")) (answer.Read name) }
+    ensures not_raised { (name : String Global) → ¬ (IsRefusedFor (check (codes "g")) None no_count no_count (answer.Read name)) }
+    ensures not_next { (name : String Global) → string_bytes name ≡ codes "t" → ¬ (IsRefusedFor (check (codes "g")) None no_count (raised (codes "t")) (answer.Read name)) }
+    ensures no_file { (name : String Global) → ¬ (IsRefusedFor (sample 1 2) None no_count (raised (string_bytes name)) (answer.Read name)) }
 {}
 
 /// Words are refused only where they have no form. A write is never refused before it was tried.
@@ -130,6 +258,8 @@ pub fn answers_that_are_refused()
 
 /// Want of memory is one answer, wherever it comes from; all else keeps what it says.
 pub fn what_refusals_mean()
+    ensures words { of_words words.NoForm ≡ answer.Words }
+    ensures memory_for_words { of_words words.Memory ≡ answer.Memory }
     ensures memory { of_refusal refusal.Memory ≡ answer.Memory }
     ensures grammar { of_refusal refusal.TooDeep ≡ answer.Grammar refusal.TooDeep }
     ensures memory_for_a_text { of_fault fault.Memory ≡ answer.Memory }
@@ -143,6 +273,29 @@ pub fn outputs_of_an_outcome()
     ensures not_shorter { (v : Vec ℕ Global) → v.items ≡ codes "<S>a</S>" → ¬ (Shows (document (element_with (text_of (codes "a"))) Single) (record { status = 0; bytes = v })) }
     ensures failed { (v : Vec ℕ Global) → v.items ≡ codes "<fail xmlns:ixml=\"http://invisiblexml.org/NS\" ixml:state=\"failed\" offset=\"1\" line=\"1\" column=\"2\"/>\n" → Shows (failed 1 1 2) (record { status = 1; bytes = v }) }
     ensures no_output { (v : Vec ℕ Global) → ¬ (Shows no_grammar (record { status = 3; bytes = v })) }
+    ensures conforms { (v : Vec ℕ Global) → v.items ≡ codes "ok\n" → Shows conforms (record { status = 0; bytes = v }) }
+    ensures no_line_feed { (v : Vec ℕ Global) → v.items ≡ codes "ok" → ¬ (Shows conforms (record { status = 0; bytes = v })) }
+    ensures figures { (v : Vec ℕ Global) → v.items ≡ codes "text 5\ndescriptors 35\nsubtrees 13\noutput 40\n" → Shows (summarised 5 (record { descriptors = 35; subtrees = 13 }) 40) (record { status = 0; bytes = v }) }
+{}
+
+/// A text shows its document or its failed document; where its figures are asked for, these in place of the document.
+pub fn outputs_of_a_text()
+    ensures document { (v : Vec ℕ Global) → v.items ≡ codes "<S>a</S>\n" → ShowsText only_a (codes "a") (record { status = 0; bytes = v }) }
+    ensures no_figures { (v : Vec ℕ Global) → v.items ≡ codes "text 1\ndescriptors 2\nsubtrees 1\noutput 9\n" → ¬ (ShowsText only_a (codes "a") (record { status = 0; bytes = v })) }
+    ensures figures { (v : Vec ℕ Global) → v.items ≡ codes "text 1\ndescriptors 2\nsubtrees 1\noutput 9\n" → ShowsFigures only_a (codes "a") (record { status = 0; bytes = v }) }
+    ensures other_figures { (v : Vec ℕ Global) → v.items ≡ codes "text 1\ndescriptors 1\nsubtrees 2\noutput 9\n" → ¬ (ShowsFigures only_a (codes "a") (record { status = 0; bytes = v })) }
+    ensures no_document { (v : Vec ℕ Global) → v.items ≡ codes "<S>a</S>\n" → ¬ (ShowsFigures only_a (codes "a") (record { status = 0; bytes = v })) }
+    ensures failed { (v : Vec ℕ Global) → v.items ≡ codes "<fail xmlns:ixml=\"http://invisiblexml.org/NS\" ixml:state=\"failed\" offset=\"1\" line=\"1\" column=\"2\"/>\n" → ShowsFigures only_a (codes "ab") (record { status = 1; bytes = v }) }
+    ensures not_failed { (v : Vec ℕ Global) → ¬ (ShowsFigures only_a (codes "a") (record { status = 1; bytes = v })) }
+{}
+
+/// A command shows what the table has for it. What is refused shows nothing.
+pub fn outputs_of_a_command()
+    ensures checked { (v : Vec ℕ Global) → v.items ≡ codes "ok\n" → ShowsCommand (check (codes "g")) (without_text one_way) (record { status = 0; bytes = v }) }
+    ensures not_checked { (output : Output) → ¬ (ShowsCommand (check (codes "g")) (holding [] []) output) }
+    ensures not_parsed { (v : Vec ℕ Global) → v.items ≡ codes "ok\n" → ¬ (ShowsCommand (parse (codes "g") (codes "t") 2) (holding one_way (codes "a")) (record { status = 0; bytes = v })) }
+    ensures reply { (v : Vec ℕ Global) → v.items ≡ codes "ok\n" → ShowsReply check_g (without_text one_way) (record { status = 0; bytes = v }) }
+    ensures no_words { (output : Output) → ¬ (ShowsReply [] (holding one_way (codes "a")) output) }
 {}
 
 /// An output is written whole and without a line; or its front is, where the output's count rose; or nothing, with the line
@@ -162,6 +315,7 @@ pub fn outputs_of_the_table()
     ensures answered { IsAnswered parse_g_t (Some (holding one_way (codes "a"))) (Some []) (Some (codes "<S>a</S>\n")) 0 (Says (Some []) (Some []) 0 0) }
     ensures not_shorter { ¬ (IsAnswered parse_g_t (Some (holding one_way (codes "a"))) (Some []) (Some (codes "<S>a</S>")) 0 (Says (Some []) (Some []) 0 0)) }
     ensures not_refused { ¬ (IsAnswered parse_g_t (Some (holding one_way (codes "a"))) (Some []) (Some []) 3 (Says (Some []) (Some []) 0 0)) }
+    ensures checked { IsAnswered check_g (Some (holding one_way [])) (Some []) (Some (codes "ok\n")) 0 (Says (Some []) (Some []) 0 0) }
     ensures front { IsCutOff parse_g_t (Some (holding one_way (codes "a"))) (Some []) (Some (codes "<S>a")) }
     ensures not_front { ¬ (IsCutOff parse_g_t (Some (holding one_way (codes "a"))) (Some []) (Some (codes "S"))) }
     ensures no_output { ¬ (IsCutOff parse_g_t (Some (holding [] [])) (Some []) (Some [])) }

@@ -1,8 +1,11 @@
 ghost use Rattle.std.specs.Prelude.{◌≡◌, IfOk, IsTrue};
 ghost use Rattle.ix_edge.specs.Entries.{names_differ};
 
+mod asked;
+mod checks;
 mod long;
 mod recorded;
+mod samples;
 
 use crate::{Answer, message, run_alone};
 use ix_edge::{Entry, Files, MemFiles, MemSink, Sink, SureFiles};
@@ -365,31 +368,6 @@ fn refuses_grammars_by_depth_and_length(rt: HostRuntime) -> Result<(), Fail> {
     Ok(())
 }
 
-const WORDS: &[u8] =
-    b"ixml: use parse GRAMMAR TEXT [--workers N], check GRAMMAR or sample N [--workers N]\n";
-
-#[test]
-fn refuses_words_of_no_form(rt: HostRuntime) -> Result<(), Fail> {
-    let alloc = rt.alloc();
-    for line in [
-        "",
-        "parse",
-        "parse g",
-        "parse g t t",
-        "Parse g t",
-        "parse - t",
-        "parse g -t",
-        "check g",
-        "--help",
-    ] {
-        let ran = run(alloc, line, b"S: \"a\".", b"a", false)?;
-        assert_eq!(rt; ran.status, 2, "{line}");
-        assert_eq!(rt; ran.written.as_slice(), b"".as_slice(), "{line}");
-        assert_eq!(rt; ran.said.as_slice(), WORDS, "{line}");
-    }
-    Ok(())
-}
-
 // A text that is not UTF-8, and a put that fails: a whole document is one put, and so is a failed one.
 #[test]
 fn tells_a_text_that_is_none_and_a_write_that_fails(rt: HostRuntime) -> Result<(), Fail> {
@@ -430,7 +408,8 @@ const GRAMMAR: (&str, u64) = ("g", 1_048_577);
 
 const TEXT: (&str, u64) = ("t", 16_777_217);
 
-// Each row: the words, the grammar, and the loads that they lead to. A text is loaded only for a grammar that conforms.
+// Each row: the words, the grammar, and the loads that they lead to. A text is loaded only for a grammar that conforms,
+// and for a sample nothing is.
 #[test]
 fn loads_the_grammar_and_then_the_text(rt: HostRuntime) -> Result<(), Fail> {
     let alloc = rt.alloc();
@@ -448,7 +427,16 @@ fn loads_the_grammar_and_then_the_text(rt: HostRuntime) -> Result<(), Fail> {
         ("parse g t", b"S: a.".as_slice(), [GRAMMAR].as_slice()),
         ("parse g t", b"S".as_slice(), [GRAMMAR].as_slice()),
         ("parse g t", b"\xC3".as_slice(), [GRAMMAR].as_slice()),
+        (
+            "parse g t --workers 3",
+            b"S: \"a\".".as_slice(),
+            [GRAMMAR, TEXT].as_slice(),
+        ),
         ("parse g", b"S: \"a\".".as_slice(), [].as_slice()),
+        ("check g", b"S: \"a\".".as_slice(), [GRAMMAR].as_slice()),
+        ("check g", b"S: a.".as_slice(), [GRAMMAR].as_slice()),
+        ("check g t", b"S: \"a\".".as_slice(), [].as_slice()),
+        ("sample 1", b"S: \"a\".".as_slice(), [].as_slice()),
     ] {
         let inner = SureFiles::new(entries(alloc, grammar, b"a")?);
         let mut files = RecordedFiles::new(alloc, inner);
@@ -474,6 +462,9 @@ fn names_a_file_that_cannot_be_read(rt: HostRuntime) -> Result<(), Fail> {
         ("parse g u", 9, b"ixml: cannot read u\n".as_slice(), [0, 1]),
         ("parse g t", 0, b"ixml: cannot read g\n".as_slice(), [1, 0]),
         ("parse g t", 1, b"ixml: cannot read t\n".as_slice(), [0, 0]),
+        ("parse - t", 9, b"ixml: cannot read -\n".as_slice(), [0, 1]),
+        ("check h", 9, b"ixml: cannot read h\n".as_slice(), [0, 1]),
+        ("check g", 0, b"ixml: cannot read g\n".as_slice(), [1, 0]),
     ] {
         let mut files = MemFiles::new(entries(alloc, b"S: \"a\".", b"a")?, vec![in alloc; fails]?);
         let mut out = MemSink::new(alloc, 64, Vec::new(alloc), 0)?;
@@ -487,6 +478,23 @@ fn names_a_file_that_cannot_be_read(rt: HostRuntime) -> Result<(), Fail> {
         assert_eq!(rt; out.bytes(), b"".as_slice(), "{line}");
         assert_eq!(rt; msg.bytes(), told, "{line}");
         assert_eq!(rt; [files.faults("g"), files.faults("?")], counts, "{line}");
+    }
+    Ok(())
+}
+
+// Each row: the words, and what is written of a put that fails after four bytes.
+#[test]
+fn tells_a_write_of_each_command_that_fails(rt: HostRuntime) -> Result<(), Fail> {
+    let alloc = rt.alloc();
+    for (line, written) in [
+        ("parse g t --workers 3", b"<S>a".as_slice()),
+        ("check g", b"ok\n".as_slice()),
+        ("sample 1", b"text".as_slice()),
+    ] {
+        let ran = run(alloc, line, b"S: \"a\".", b"a", true)?;
+        assert_eq!(rt; ran.status, 8, "{line}");
+        assert_eq!(rt; ran.written.as_slice(), written, "{line}");
+        assert_eq!(rt; ran.said.as_slice(), b"ixml: cannot write\n".as_slice());
     }
     Ok(())
 }

@@ -2,6 +2,7 @@ use Rattle.std.proofs.Common.{◌≡◌, refl, sym, ap, ◌∙◌, length, arith
 use Rattle.std.specs.Fmt.{digits}
 use lib.Utf8.{encode}
 use Rattle.ix_model.specs.Documents.FailedXml.{failed_xml}
+use Rattle.ix_cli.proofs.SmallFigures.{ok_shown}
 use Rattle.ix_cli.proofs.laws.outputs_of_an_outcome.Goals as goal
 
 pub returns-clause-document : goal.returns-clause-document
@@ -21,3 +22,13 @@ returns-clause-failed c v e = record { status = refl; bytes = e; some = omega ar
 
 pub returns-clause-no_output : goal.returns-clause-no_output
 returns-clause-no_output c v h = omega (arith, h.some)
+
+pub returns-clause-conforms : goal.returns-clause-conforms
+returns-clause-conforms c v e = ok_shown v e
+
+pub returns-clause-no_line_feed : goal.returns-clause-no_line_feed
+returns-clause-no_line_feed c v e h = let f : 2 ≡ 3 = ap length (sym e ∙ h.bytes) in omega (arith, f)
+
+pub returns-clause-figures : goal.returns-clause-figures
+unfolding digits
+returns-clause-figures c v e = record { status = refl; bytes = e; some = omega arith; silent = refl }

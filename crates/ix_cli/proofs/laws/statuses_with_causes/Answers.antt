@@ -1,7 +1,8 @@
 use Rattle.std.proofs.Common.{◌≡◌, refl, arith}
 use mathlib.Core.Logic.{inl}
+use Rattle.ix_answer_laws.proofs.Commands.{no_words}
 use Rattle.ix_cli.proofs.Caused.{reply_caused}
-use Rattle.ix_cli.proofs.SmallReplies.{no_words_form, answered, no_grammar_here, failure_caused, no_text_caused}
+use Rattle.ix_cli.proofs.SmallReplies.{answered, no_grammar_here, failure_caused, no_text_caused}
 use Rattle.ix_cli.proofs.laws.statuses_with_causes.Goals as goal
 
 pub returns-clause-document : goal.returns-clause-document
@@ -15,7 +16,7 @@ pub returns-clause-not_document : goal.returns-clause-not_document
 returns-clause-not_document c h = let e : 0 ≡ 1 = h.no_derivation.1 (failure_caused.no_derivation.0 refl) in omega (arith, e)
 
 pub returns-clause-no_form : goal.returns-clause-no_form
-returns-clause-no_form c = reply_caused _ _ _ (inl (no_words_form, refl))
+returns-clause-no_form c = reply_caused _ _ _ (inl (no_words, refl))
 
 pub returns-clause-no_grammar : goal.returns-clause-no_grammar
 returns-clause-no_grammar c = reply_caused _ _ _ (no_grammar_here _)
