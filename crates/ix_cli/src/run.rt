@@ -14,8 +14,8 @@ ghost use Rattle.ix_cli.specs.Unread.{IsUnread};
 ghost use Rattle.ix_cli.specs.Written.{IsWritten};
 
 use crate::answer::Answer;
-use crate::lines::{MEMORY, message};
 use crate::commands::carried_out;
+use crate::lines::{MEMORY, message};
 use crate::output::Output;
 use crate::telling::{refuse, tell};
 use ix_edge::{Files, Sink};

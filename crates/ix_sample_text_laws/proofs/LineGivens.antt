@@ -68,14 +68,14 @@ bare_of_line ns ws a b c d = simp (factor_of_one, out_lit, out_call) refl
 bare_line : (d : Tree) → IsLine d → AreBareLines (bare sample_rules d (call (codes "line")))
 bare_line d (ns, ws, a, b, c, e, p, hn, hw) =
     subst AreBareLines (sym (ap (λ x. bare sample_rules x (call (codes "line"))) p ∙ bare_of_line ns ws a b c e))
-        (refl, refl, (_, _, a, b, c, e, refl, bare_texts (some_of digits) ns hn, bare_texts (some_of letters) ws hw), tt)
+    (refl, refl, (_, _, a, b, c, e, refl, bare_texts (some_of digits) ns hn, bare_texts (some_of letters) ws hw), tt)
 
 -- the bare trees of lines
 pub bare_lines : (ds : Repeated) → AreLines ds → AreBareLines (bare_repeated sample_rules ds (Star (Call None (codes "line")) None))
 bare_lines (one d) h = subst (λ f. AreBareLines (bare sample_rules d (One f))) (sym (factor_of_star (Call None (codes "line")) None)) (bare_line d h)
 bare_lines (again ds d) h =
     join_lines (bare_repeated sample_rules ds (Star (Call None (codes "line")) None)) _ (bare_lines ds h.0)
-        (subst (λ f. AreBareLines (bare sample_rules d (One f))) (sym (factor_of_star (Call None (codes "line")) None)) (bare_line d h.1))
+    (subst (λ f. AreBareLines (bare sample_rules d (One f))) (sym (factor_of_star (Call None (codes "line")) None)) (bare_line d h.1))
 bare_lines (again_after ds p d) h = absurd h
 
 -- ---- what they give
@@ -190,6 +190,6 @@ module _ (s : List ℕ) (fit : AllByRecursion IsCharacter s) where
   lines_fit none h = nothing_fits
   lines_fit (more (bare_node name mark bs) rest) (p, q, l, h) =
       subst (λ x. Fits (gives_all s (more (bare_node x mark bs) rest))) (sym p)
-          (subst (λ m. Fits (gives_all s (more (bare_node (codes "line") m bs) rest))) (sym q)
-              (more_fits (codes "line") (gives_all s bs) (gives_all s rest) name_line (bare_line_fits bs l) (lines_fit rest h)))
+      (subst (λ m. Fits (gives_all s (more (bare_node (codes "line") m bs) rest))) (sym q)
+      (more_fits (codes "line") (gives_all s bs) (gives_all s rest) name_line (bare_line_fits bs l) (lines_fit rest h)))
   lines_fit (more x rest) h = absurd h
