@@ -1,11 +1,13 @@
 -- From what was loaded and found to the table of answers.
-use Rattle.std.proofs.Common.{◌≡◌, refl, sym, subst, ℕ, ◌≤◌, List, take, Option, None, Some, Result, Ok, Err, IfErr, IfSome, arith}
+use Rattle.std.proofs.Common.{◌≡◌, refl, ap, sym, ◌∙◌, subst, ℕ, ◌≤◌, List, take, Option, None, Some, Result, Ok, Err, IfErr, IfSome, arith}
 use Rattle.std.specs.Result.{IsErrAnd}
 use mathlib.Core.Logic.{inl, inr}
+use Rattle.ix_model.specs.declared.counts.Counts.{Counts}
 use Rattle.ix_model.specs.declared.grammar.Grammar.{Grammar}
 use Rattle.ix_model.specs.Answers.Answer.{HoldsConforming, TextAnswered, Measured, CommandAnswered}
 use Rattle.ix_model.specs.Answers.CommandLine.{parse, check, sample}
-use Rattle.ix_model.specs.Answers.Outcome.{Outcome, conforms}
+use Rattle.ix_model.specs.Answers.Outcome.{Outcome, conforms, summarised, status_of}
+use Rattle.ix_model.specs.Answers.Decoding.{decoded}
 use Rattle.ix_model.specs.Answers.Sample.{sample_grammar, sample_text}
 use Rattle.ix_edge.specs.Causes.{Rose}
 use Rattle.ix_edge.specs.Told.{Told, held}
@@ -26,6 +28,8 @@ use Rattle.ix_cli.specs.Shown.{Shows, ShowsText, ShowsFigures, ShowsCommand}
 use Rattle.ix_answer_laws.proofs.OneAnswer.{refused_or_held}
 use Rattle.ix_sample_laws.specs.SampleRules.{sample_rules}
 use Rattle.ix_sample_laws.proofs.SampleConforms.{sample_conforms}
+use Rattle.ix_sample_text_laws.proofs.Summarised.{sample_summarised}
+use Rattle.ix_spelling_laws.proofs.ReadingComplete.{spelled_once}
 use Rattle.ix_cli.proofs.LoadedFiles.{text_whole}
 
 -- a count that rose later rose
@@ -92,24 +96,31 @@ module _ (grammar : List ℕ) where
 
 -- ---- the sample
 
-module _ (lines workers : ℕ) where
-  -- its grammar conforms, so it is refused for want of memory alone
-  pub sample_compiled : (told : Option Told) (old new : List ℕ → ℕ) (r : Refusal) → IsRefusalOf sample_grammar r → IsRefusedFor (sample lines workers) told old new (of_refusal r)
-  sample_compiled told old new refusal.Memory h = tt
-  sample_compiled told old new r h = absurd (refused_or_held sample_grammar (outcome_of r) sample_rules h sample_conforms)
+-- its grammar is not refused, but for want of memory
+pub sample_compiled : (r : Refusal) → IsRefusalOf sample_grammar r → of_refusal r ≡ answer.Memory
+sample_compiled refusal.Memory h = refl
+sample_compiled r h = absurd (refused_or_held sample_grammar (outcome_of r) sample_rules h sample_conforms)
 
-  sample_told : (g : Grammar) (told : Option Told) (o : Outcome) → HoldsConforming sample_grammar g → Measured g (sample_text lines) o → IfSome told (λ files. CommandAnswered (held files) (sample lines workers) o)
-  sample_told g None o c m = tt
-  sample_told g (Some files) o c m = (g, c, m)
+module _ (lines : ℕ) (small : lines ≤ 10000) (g : Grammar) (c : HoldsConforming sample_grammar g) where
+  same_rules : g ≡ sample_rules
+  same_rules = spelled_once (decoded sample_grammar) g sample_rules c.0.1 sample_conforms.0.1
 
-  pub sample_refused : (g : Grammar) (told : Option Told) (old new : List ℕ → ℕ) (f : ParseFault) → HoldsConforming sample_grammar g → IsFault g (sample_text lines) f → IsRefusedFor (sample lines workers) told old new (of_fault f)
-  sample_refused g told old new fault.Memory c h = tt
-  sample_refused g told old new fault.TooLong c h = ((λ e. cc e), sample_told g told (fault_outcome fault.TooLong) c h)
-  sample_refused g told old new (fault.NotUtf8 valid) c h = ((λ e. cc e), sample_told g told (fault_outcome (fault.NotUtf8 valid)) c h)
-  sample_refused g told old new (fault.Dynamic code) c h = ((λ e. cc e), sample_told g told (fault_outcome (fault.Dynamic code)) c h)
+  figures : (o : Outcome) → Measured g (sample_text lines) o → (text output : ℕ) × (counts : Counts) × (o ≡ summarised text counts output)
+  figures o m = sample_summarised lines small o (subst (λ x. Measured x (sample_text lines) o) same_rules m)
 
-  pub sample_shown : (g : Grammar) (files : Told) (output : Output) → HoldsConforming sample_grammar g → ShowsFigures g (sample_text lines) output → ShowsCommand (sample lines workers) files output
-  sample_shown g files output c (o, m, s) = (o, (g, c, m), s)
+  -- neither is its text
+  pub sample_parsed : (f : ParseFault) → IsFault g (sample_text lines) f → of_fault f ≡ answer.Memory
+  sample_parsed fault.Memory h = refl
+  sample_parsed fault.TooLong h = absurd (cc (figures (fault_outcome fault.TooLong) h).3)
+  sample_parsed (fault.NotUtf8 valid) h = absurd (cc (figures (fault_outcome (fault.NotUtf8 valid)) h).3)
+  sample_parsed (fault.Dynamic code) h = absurd (cc (figures (fault_outcome (fault.Dynamic code)) h).3)
+
+  -- and it has figures
+  pub sample_done : (output : Output) → ShowsFigures g (sample_text lines) output → output.status ≡ 0
+  sample_done output (o, m, s) = s.status ∙ ap status_of (figures o m).3
+
+  pub sample_shown : (files : Told) (workers : ℕ) (output : Output) → ShowsFigures g (sample_text lines) output → ShowsCommand (sample lines workers) files output
+  sample_shown files workers output (o, m, s) = (o, (g, c, m), s)
 
 -- what is true of the error that is handed on is true of the result
 pub handed_on : {T : Type 0} (r : Result T Answer) (P : Answer → Type 0) (a : Answer) → IsErrAnd r (λ x. x ≡ a) → P a → IfErr r P

@@ -7,6 +7,7 @@ pub mod Loaded
 pub mod Means
 pub mod Named
 pub mod Refused
+pub mod Sampled
 pub mod Says
 pub mod Shown
 pub mod Table

@@ -1,10 +1,11 @@
 //! What is written of each command.
 
-ghost use Rattle.std.specs.Prelude.{◌≡◌, ◌≤◌, ◌⊎◌, ℕ, List, Option, IfOk, IfErr, IfSome, length};
+ghost use Rattle.std.specs.Prelude.{◌≡◌, ◌≤◌, ◌⊎◌, ℕ, List, IfOk, IfErr, IfSome};
 ghost use Rattle.ix_edge.specs.Told.{Told};
 ghost use Rattle.ix_model.specs.Answers.CommandLine.{parse, check, sample, IsCommand};
 ghost use Rattle.ix_words.specs.Asked.{asked};
 ghost use Rattle.ix_cli.specs.Refused.{IsRefusedFor};
+ghost use Rattle.ix_cli.specs.Sampled.{IsSampled};
 ghost use Rattle.ix_cli.specs.Shown.{ShowsCommand};
 
 use crate::answer::Answer;
@@ -26,6 +27,7 @@ pub fn carried_out<F: Files>(
     ensures status { IfOk result (λ output. (output.status ≡ 0) ⊎ (output.status ≡ 1)) }
     ensures ok { IfOk result (λ output. IfSome (F.told files.old) (λ told. ShowsCommand (asked command.now) told output)) }
     ensures err { IfErr result (IsRefusedFor (asked command.now) (F.told files.old) (F.faults files.old) (F.faults files.new)) }
+    ensures sample { (lines workers : ℕ) → asked command.now ≡ sample lines workers → IsSampled result }
     ensures same { F.told files.new ≡ F.told files.old }
     ensures later { (name : List ℕ) → F.faults files.old name ≤ F.faults files.new name }
 {
@@ -74,9 +76,8 @@ fn checked<F: Files>(alloc: Global, grammar: &str, files: &mut F) -> Result<Outp
 fn sampled(alloc: Global, lines: u32) -> Result<Output, Answer>
     requires least { 1 ≤ lines }
     requires most { lines ≤ 10000 }
-    ensures status { IfOk result (λ output. (output.status ≡ 0) ⊎ (output.status ≡ 1)) }
+    ensures sampled { IsSampled result }
     ensures ok { (files : Told) (workers : ℕ) → IfOk result (ShowsCommand (sample lines workers) files) }
-    ensures err { (told : Option Told) (old new : List ℕ → ℕ) (workers : ℕ) → IfErr result (IsRefusedFor (sample lines workers) told old new) }
 {
     let grammar = compile(alloc, grammar())?;
     let text = text(alloc, lines)?;

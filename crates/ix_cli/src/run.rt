@@ -1,20 +1,21 @@
 ghost use Rattle.std.specs.Prelude.{◌≡◌, ◌≢◌, ◌⊎◌, ◌≤◌, ℕ, List, IfOk, IfErr, IfSome, map, string_bytes};
 ghost use Rattle.std.specs.Io.KnownBytes.{Keeps};
 ghost use Rattle.ix_edge.specs.Causes.{Rose};
-ghost use Rattle.ix_model.specs.Answers.CommandLine.{HasNoForm};
+ghost use Rattle.ix_model.specs.Answers.CommandLine.{sample, IsCommand, HasNoForm};
 ghost use Rattle.ix_cli.specs.Answered.{IsAnswered, IsCutOff, IsMessage};
 ghost use Rattle.ix_cli.specs.Causes.{IsCaused};
 ghost use Rattle.ix_cli.specs.Lines.{read_line};
 ghost use Rattle.ix_cli.specs.Named.{HasCommand, Names};
 ghost use Rattle.ix_cli.specs.Refused.{IsRefused};
+ghost use Rattle.ix_cli.specs.Sampled.{IsSampled};
 ghost use Rattle.ix_cli.specs.Says.{Says};
 ghost use Rattle.ix_cli.specs.Shown.{ShowsReply};
 ghost use Rattle.ix_cli.specs.Unread.{IsUnread};
 ghost use Rattle.ix_cli.specs.Written.{IsWritten};
 
 use crate::answer::Answer;
-use crate::lines::{MEMORY, message};
 use crate::commands::carried_out;
+use crate::lines::{MEMORY, message};
 use crate::output::Output;
 use crate::telling::{refuse, tell};
 use ix_edge::{Files, Sink};
@@ -51,6 +52,9 @@ pub fn run_alone<F: Files, O: Sink, M: Sink>(
     // Each status from 0 to 6 comes exactly where its cause holds.
     ensures causes { result ≢ 7 → result ≢ 8 → result ≢ 9 →
         IfSome (F.told files.old) (λ told. IsCaused (map string_bytes words.now) told result) }
+    // The figures of the sample are never refused: neither its grammar nor its text is.
+    ensures sample { (lines workers : ℕ) → IsCommand (map string_bytes words.now) (sample lines workers) →
+        (result ≡ 0) ⊎ ((result ≡ 8) ⊎ (result ≡ 9)) }
     ensures no_form { HasNoForm (map string_bytes words.now) → (result ≡ 2) ⊎ (result ≡ 9) }
     ensures words { result ≡ 2 → HasNoForm (map string_bytes words.now) }
 
@@ -81,6 +85,7 @@ fn answer_of<F: Files>(alloc: Global, words: &[String], files: &mut F) -> Result
     ensures status { IfOk result (λ output. (output.status ≡ 0) ⊎ (output.status ≡ 1)) }
     ensures ok { IfOk result (λ output. IfSome (F.told files.old) (λ told. ShowsReply (map string_bytes words.now) told output)) }
     ensures err { IfErr result (IsRefused (map string_bytes words.now) (F.told files.old) (F.faults files.old) (F.faults files.new)) }
+    ensures sample { (lines workers : ℕ) → IsCommand (map string_bytes words.now) (sample lines workers) → IsSampled result }
     ensures same { F.told files.new ≡ F.told files.old }
     ensures later { (name : List ℕ) → F.faults files.old name ≤ F.faults files.new name }
 {
