@@ -1,6 +1,6 @@
 //! Laws of the definitions that the command's contract speaks of. Each function's contract is the law; the bodies are
 //! empty.
-ghost use Rattle.std.specs.Prelude.{◌≡◌, ℕ, List, [], ◌∷◌, Some, None, String, Vec, IsUtf8, codes, length, string_bytes};
+ghost use Rattle.std.specs.Prelude.{◌≡◌, ℕ, List, [], ◌∷◌, Some, None, Ok, Err, String, Vec, IsUtf8, codes, length, string_bytes};
 ghost use Rattle.std.specs.declared.alloc.Global.{Global};
 ghost use Rattle.ix_model.specs.declared.counts.Counts.{Counts};
 ghost use Rattle.ix_model.specs.declared.grammar.Grammar.{Grammar};
@@ -30,6 +30,7 @@ ghost use Rattle.ix_cli.specs.Loaded.{Holds, IsLoadFault, IsGrammarFault};
 ghost use Rattle.ix_cli.specs.Means.{of_words, of_refusal, of_fault};
 ghost use Rattle.ix_cli.specs.Named.{HasCommand, ReadsGrammar, ReadsText, Names};
 ghost use Rattle.ix_cli.specs.Refused.{IsRefusedFor, IsRefused};
+ghost use Rattle.ix_cli.specs.Sampled.{IsSampled};
 ghost use Rattle.ix_cli.specs.Says.{Says};
 ghost use Rattle.ix_cli.specs.Shown.{Shows, ShowsText, ShowsFigures, ShowsCommand, ShowsReply};
 ghost use Rattle.ix_cli.specs.Table.{IsReply};
@@ -136,6 +137,15 @@ pub fn samples_that_are_measured()
     ensures no_grammar { ¬ (IsReply sample_1 (holding [] []) no_grammar) }
 {}
 
+/// A sample ends with its figures, or memory runs out.
+pub fn results_of_a_sample()
+    ensures figures { (v : Vec ℕ Global) → IsSampled (Ok (record { status = 0; bytes = v })) }
+    ensures not_failed { (v : Vec ℕ Global) → ¬ (IsSampled (Ok (record { status = 1; bytes = v }))) }
+    ensures memory { IsSampled (Err answer.Memory) }
+    ensures no_words { ¬ (IsSampled (Err answer.Words)) }
+    ensures not_refused { (r : Refusal) → ¬ (IsSampled (Err (answer.Grammar r))) }
+{}
+
 /// Each status has its cause, and the cause no other status.
 pub fn statuses_with_causes()
     ensures document { IsCaused parse_g_t (holding one_way (codes "a")) 0 }
@@ -229,6 +239,7 @@ pub fn commands_that_are_refused()
     ensures shorter { ¬ (IsRefusedFor (parse (codes "g") (codes "t") 2) (Some (holding one_way (97 ∷ 195 ∷ []))) no_count no_count (answer.Text (fault.NotUtf8 0))) }
     ensures not_checked { ¬ (IsRefusedFor (check (codes "g")) (Some (holding one_way (97 ∷ 195 ∷ []))) no_count no_count (answer.Text (fault.NotUtf8 1))) }
     ensures sample { (r : Refusal) → ¬ (IsRefusedFor (sample 1 2) (Some (holding [] [])) no_count no_count (answer.Grammar r)) }
+    ensures untold { IsRefusedFor (check (codes "g")) None no_count no_count (answer.Grammar refusal.NotIxml) }
     ensures no_words { ¬ (IsRefusedFor (check (codes "g")) None no_count no_count answer.Words) }
     ensures write { ¬ (IsRefusedFor (check (codes "g")) None no_count no_count answer.Write) }
 {}

@@ -8,12 +8,7 @@ fn checks_the_grammar_alone(rt: HostRuntime) -> Result<(), Fail> {
     for (grammar, status, written, said) in [
         (b"S: \"a\".".as_slice(), 0, "ok\n", ""),
         (b"@S: \"x\".".as_slice(), 0, "ok\n", ""),
-        (
-            b"".as_slice(),
-            3,
-            "",
-            "ixml: G01: not an ixml grammar\n",
-        ),
+        (b"".as_slice(), 3, "", "ixml: G01: not an ixml grammar\n"),
         (
             b"ixml version \"2.0\". S: \"a\".".as_slice(),
             3,

@@ -31,6 +31,9 @@ pub returns-clause-sample : goal.returns-clause-sample
 returns-clause-sample c refusal.Memory (n, h) = n refl
 returns-clause-sample c r (n, h) = h.2.1
 
+pub returns-clause-untold : goal.returns-clause-untold
+returns-clause-untold c = ((λ e. cc e), tt)
+
 pub returns-clause-no_words : goal.returns-clause-no_words
 returns-clause-no_words c h = h
 
