@@ -45,11 +45,11 @@ pub conforms_alone : IsReply check_g (without_text one_way) conforms
 conforms_alone = inr (checking, checks_g, one_way_alone)
 
 pub none_alone : IsReply check_g (without_text []) no_grammar
-none_alone = inr (checking, checks_g, [], refl, inl nothing_refused)
+none_alone = inr (checking, checks_g, ([], refl, inl nothing_refused))
 
 pub no_characters : IsReply check_g (holding (195 ∷ []) (codes "a")) (grammar_not_utf8 0)
 unfolding utf8_valid_len is_utf8 chars encode
-no_characters = inr (checking, checks_g, 195 ∷ [], refl, inl (omega arith, not_utf8 _ refl, refl))
+no_characters = inr (checking, checks_g, (195 ∷ [], refl, inl (omega arith, not_utf8 _ refl, refl)))
 
 -- where the files hold nothing as a grammar there is one answer
 pub nothing_else_checked : (text : List ℕ) (o : Outcome) → CommandAnswered (held (holding [] text)) checking o → no_grammar ≡ o

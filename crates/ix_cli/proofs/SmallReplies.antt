@@ -18,6 +18,7 @@ use Rattle.ix_model.specs.Spelling.Characters.{is_blank, is_name_start, is_name_
 use Rattle.ix_examples.specs.SmallAnswers.{parse_g_t, one_way, both_ways}
 use Rattle.ix_examples.specs.SmallGivens.{text_of, document as element_with}
 use Rattle.ix_examples.specs.SmallGrammars as grammars
+use Rattle.ix_examples.proofs.SmallTexts.{first}
 use Rattle.ix_examples.proofs.SmallConforming.{only_a_conforms, two_ways_conforms, shallow_a, shallow_both}
 use Rattle.ix_spelling_laws.proofs.ByReading.{reads, reads_none}
 use Rattle.ix_worked_examples.proofs.SmallAnswers.{parses_g_t, not_utf8, a_parsed, a_parsed_twice, ab_failed}
@@ -54,22 +55,22 @@ unfolding is_blank is_name_start is_name_part general_category value_in general_
 nothing_refused = ((omega arith, ([], (refl, refl))), reads_none _ refl)
 
 pub no_grammar_here : (text : List ℕ) → IsReply parse_g_t (holding [] text) no_grammar
-no_grammar_here text = inr (parsing, parses_g_t, [], refl, inl nothing_refused)
+no_grammar_here text = inr (parsing, parses_g_t, ([], refl, inl nothing_refused))
 
 pub no_grammar_alone : IsReply parse_g_t (without_text []) no_grammar
-no_grammar_alone = inr (parsing, parses_g_t, [], refl, inl nothing_refused)
+no_grammar_alone = inr (parsing, parses_g_t, ([], refl, inl nothing_refused))
 
 pub long_grammar : (bytes : List ℕ) → length bytes ≡ 1048577 → IsReply parse_g_t (holding bytes []) grammar_too_long
-long_grammar bytes e = inr (parsing, parses_g_t, bytes, refl, inl (omega (arith, e)))
+long_grammar bytes e = inr (parsing, parses_g_t, (bytes, refl, inl (omega (arith, e))))
 
 pub other_grammar : (bytes : List ℕ) → length bytes ≡ 1048576 → ¬ (IsUtf8 bytes) → IsReply parse_g_t (holding bytes []) (grammar_not_utf8 (utf8_valid_len bytes))
-other_grammar bytes e n = inr (parsing, parses_g_t, bytes, refl, inl (omega (arith, e), n, refl))
+other_grammar bytes e n = inr (parsing, parses_g_t, (bytes, refl, inl (omega (arith, e), n, refl)))
 
 -- ---- texts
 
 -- the files hold a text for `S: "a".`
 pub under_one_way : (s : List ℕ) (o : Outcome) → TextAnswered grammars.only_a s o → IsReply parse_g_t (holding one_way s) o
-under_one_way s o h = inr (parsing, parses_g_t, one_way, refl, inr (grammars.only_a, holds_one_way, s, refl, h))
+under_one_way s o h = inr (parsing, parses_g_t, (one_way, refl, inr (grammars.only_a, holds_one_way, s, refl, h)))
 
 abbrev pub a_document : Outcome
 a_document = document (element_with (text_of (codes "a"))) Single
@@ -83,7 +84,7 @@ answered = under_one_way (codes "a") _ a_answered
 
 pub answered_twice : IsReply parse_g_t (holding both_ways (codes "a")) (document (element_with (text_of (codes "a"))) Ambiguous)
 unfolding chars encode
-answered_twice = inr (parsing, parses_g_t, both_ways, refl, inr (grammars.two_ways, holds_both_ways, codes "a", refl, ((omega arith, (codes "a", (refl, refl))), a_parsed_twice)))
+answered_twice = inr (parsing, parses_g_t, (both_ways, refl, inr (grammars.two_ways, holds_both_ways, codes "a", refl, ((omega arith, (codes "a", (refl, refl))), a_parsed_twice))))
 
 pub ab_answered : TextAnswered grammars.only_a (codes "ab") (failed 1 1 2)
 unfolding chars encode
@@ -214,7 +215,7 @@ pub text_after_grammar : ¬ (IsUnread parse_g_t (Some (holding [] [])) no_count 
 text_after_grammar (command, is, rose, next) = by_next (of_parse (λ c. IsNext (Some (holding [] [])) c (codes "t")) command is next)
   where
     by_next : IsNext (Some (holding [] [])) parsing (codes "t") → ⊥
-    by_next (inl e) = absurd (cc e)
+    by_next (inl e) = omega (arith, ap first e)
     by_next (inr (e, h)) = not_held_some h
 
 -- nor is a file that is not named
@@ -222,5 +223,5 @@ pub other_unread : ¬ (IsUnread parse_g_t (Some (holding [] [])) no_count (raise
 other_unread (command, is, rose, next) = by_next (of_parse (λ c. IsNext (Some (holding [] [])) c (codes "x")) command is next)
   where
     by_next : IsNext (Some (holding [] [])) parsing (codes "x") → ⊥
-    by_next (inl e) = absurd (cc e)
-    by_next (inr (e, h)) = absurd (cc e)
+    by_next (inl e) = omega (arith, ap first e)
+    by_next (inr (e, h)) = omega (arith, ap first e)

@@ -1,8 +1,9 @@
 -- What small words ask for, and the files that they name.
-use Rattle.std.proofs.Common.{◌≡◌, ◌⊎◌, refl, sym, subst, ℕ, List, [], ◌∷◌, codes, arith}
+use Rattle.std.proofs.Common.{◌≡◌, ◌⊎◌, refl, ap, subst, ℕ, List, [], ◌∷◌, codes, arith}
 use mathlib.Core.Logic.{inl, inr}
 use Rattle.ix_model.specs.Answers.CommandLine.{Command, parse, check, sample, Asks, IsCommand}
 use Rattle.ix_examples.specs.SmallAnswers.{check_g, parse_g_t}
+use Rattle.ix_examples.proofs.SmallTexts.{first}
 use Rattle.ix_worked_examples.proofs.SmallAnswers.{checks_g, parses_g_t}
 use Rattle.ix_answer_laws.proofs.Commands.{of_read, parts_are, command_is_one}
 use Rattle.ix_cli.specs.Examples.{sample_1}
@@ -24,8 +25,8 @@ module _ (P : Command → Type 0) (command : Command) where
 
 one_name_asked : (command : Command) → ¬ (Asks (codes "parse") (codes "g" ∷ []) [] command)
 one_name_asked (parse grammar text workers) a = absurd (cc a.1)
-one_name_asked (check grammar) a = absurd (cc a.0)
-one_name_asked (sample lines workers) a = absurd (cc a.0)
+one_name_asked (check grammar) a = omega (arith, ap first a.0)
+one_name_asked (sample lines workers) a = omega (arith, ap first a.0)
 
 pub one_name_none : ¬ (HasCommand (codes "parse" ∷ codes "g" ∷ []))
 one_name_none (command, is) = one_name_asked command (parts_are (codes "parse") (codes "g" ∷ []) (codes "g" ∷ []) [] command refl is)

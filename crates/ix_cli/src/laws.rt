@@ -16,7 +16,7 @@ ghost use Rattle.ix_engine.specs.declared.refusal.Refusal.{Refusal};
 ghost use Rattle.ix_engine.specs.declared.refusal.Refusal.TheVariants as refusal;
 ghost use Rattle.ix_examples.specs.SmallAnswers.{check_g, parse_g_t, one_way, both_ways};
 ghost use Rattle.ix_examples.specs.SmallGivens.{text_of, document as element_with};
-ghost use Rattle.ix_examples.specs.SmallGrammars.{only_a, two_ways};
+ghost use Rattle.ix_examples.specs.SmallGrammars.{only_a};
 ghost use Rattle.ix_sample_laws.specs.SampleRules.{sample_rules};
 ghost use Rattle.ix_words.specs.declared.command.WordsFault.TheVariants as words;
 ghost use Rattle.ix_cli.specs.declared.answer.Answer.TheVariants as answer;
@@ -86,7 +86,7 @@ pub fn files_that_words_name()
 pub fn texts_that_are_parsed()
     ensures parsed { Parses (holding one_way (codes "a")) (parse (codes "g") (codes "t") 2) only_a (codes "a") }
     ensures other_text { ¬ (Parses (holding one_way (codes "a")) (parse (codes "g") (codes "t") 2) only_a (codes "ab")) }
-    ensures other_grammar { ¬ (Parses (holding one_way (codes "a")) (parse (codes "g") (codes "t") 2) two_ways (codes "a")) }
+    ensures other_grammar { ¬ (Parses (holding one_way (codes "a")) (parse (codes "g") (codes "t") 2) sample_rules (codes "a")) }
     ensures no_text { (s : List ℕ) → ¬ (Parses (without_text one_way) (parse (codes "g") (codes "t") 2) only_a s) }
     ensures checked { (g : Grammar) (s : List ℕ) → ¬ (Parses (holding one_way (codes "a")) (check (codes "g")) g s) }
     ensures sample { Parses (without_text []) (sample 1 2) sample_rules (codes "1:ab\n") }

@@ -12,16 +12,16 @@ pub returns-clause-not_words : goal.returns-clause-not_words
 returns-clause-not_words c h = h parsing parses_g_t
 
 pub returns-clause-grammar : goal.returns-clause-grammar
-returns-clause-grammar c = (parsing, parses_g_t, (λ e. cc e), ([], refl, inl nothing_refused))
+returns-clause-grammar c = (parsing, parses_g_t, ((λ e. cc e), ([], refl, inl nothing_refused)))
 
 pub returns-clause-not_grammar : goal.returns-clause-not_grammar
-returns-clause-not_grammar c (command, is, n, h) = absurd (cc (the_failure _ (inr (command, is, h))))
+returns-clause-not_grammar c (command, is, (n, h)) = absurd (cc (the_failure _ (inr (command, is, h))))
 
 pub returns-clause-text : goal.returns-clause-text
-returns-clause-text c = (parsing, parses_g_t, (λ e. cc e), text_of_no_characters)
+returns-clause-text c = (parsing, parses_g_t, ((λ e. cc e), text_of_no_characters))
 
 pub returns-clause-not_text : goal.returns-clause-not_text
-returns-clause-not_text c (command, is, n, h) = absurd (cc (the_failure _ (inr (command, is, h))))
+returns-clause-not_text c (command, is, (n, h)) = absurd (cc (the_failure _ (inr (command, is, h))))
 
 pub returns-clause-memory : goal.returns-clause-memory
 returns-clause-memory c = tt

@@ -1,9 +1,9 @@
-use Rattle.std.proofs.Common.{◌≡◌, refl, codes, arith}
+use Rattle.std.proofs.Common.{◌≡◌, refl, ap, [], Some, codes, arith}
 use mathlib.Core.Logic.{inl, inr}
 use Rattle.ix_examples.specs.SmallAnswers.{one_way}
 use Rattle.ix_examples.specs.SmallGrammars.{only_a}
+use Rattle.ix_examples.proofs.SmallTexts.{first}
 use Rattle.ix_worked_examples.proofs.SmallAnswers.{parses_g_t}
-use Rattle.std.specs.Prelude.{Some}
 use Rattle.ix_cli.specs.Examples.{holding}
 use Rattle.ix_cli.specs.Unread.{IsNext}
 use Rattle.ix_cli.proofs.SmallReplies.{parsing, holds_one_way, text_after_grammar, other_unread}
@@ -26,4 +26,4 @@ pub returns-clause-not_named : goal.returns-clause-not_named
 returns-clause-not_named c = other_unread
 
 pub returns-clause-not_checked : goal.returns-clause-not_checked
-returns-clause-not_checked c (command, is, rose, next) = let e : codes "t" ≡ codes "g" = of_check (λ x. IsNext (Some (holding one_way _)) x (codes "t")) command is next in absurd (cc e)
+returns-clause-not_checked c (command, is, rose, next) = let e : codes "t" ≡ codes "g" = of_check (λ x. IsNext (Some (holding one_way [])) x (codes "t")) command is next in omega (arith, ap first e)

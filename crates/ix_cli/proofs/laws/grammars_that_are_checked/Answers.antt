@@ -34,4 +34,4 @@ pub returns-clause-not_checked : goal.returns-clause-not_checked
 returns-clause-not_checked c = not_checked
 
 pub returns-clause-by_parse : goal.returns-clause-by_parse
-returns-clause-by_parse c = not_by_parse _
+returns-clause-by_parse c = not_by_parse (holding one_way (codes "a"))

@@ -1,8 +1,9 @@
-use Rattle.std.proofs.Common.{◌≡◌, refl, sym, ap, ◌∙◌, subst, ℕ, length, codes, arith}
+use Rattle.std.proofs.Common.{◌≡◌, refl, sym, ap, ◌∙◌, subst, length, arith}
+use Rattle.ix_model.specs.declared.grammar.Grammar.{Grammar}
 use Rattle.ix_model.specs.Answers.Answer.{HoldsConforming}
 use Rattle.ix_model.specs.Answers.Sample.{sample_grammar}
 use Rattle.ix_examples.specs.SmallAnswers.{one_way}
-use Rattle.ix_examples.specs.SmallGrammars.{only_a, two_ways}
+use Rattle.ix_examples.specs.SmallGrammars.{only_a}
 use Rattle.ix_answer_laws.proofs.OneAnswer.{held_grammar}
 use Rattle.ix_sample_laws.specs.SampleRules.{sample_rules}
 use Rattle.ix_sample_laws.proofs.SampleConforms.{sample_conforms}
@@ -17,10 +18,13 @@ returns-clause-parsed c = (one_way, refl, holds_one_way, refl)
 pub returns-clause-other_text : goal.returns-clause-other_text
 returns-clause-other_text c (bytes, e, g, f) = absurd (cc f)
 
+-- they have one rule and four
+other_rules : only_a ≡ sample_rules → ⊥
+other_rules e = let f : 1 ≡ 4 = ap (λ (g : Grammar). length g.rules) e in omega (arith, f)
+
 pub returns-clause-other_grammar : goal.returns-clause-other_grammar
 returns-clause-other_grammar c (bytes, e, g, f) =
-    let same : only_a ≡ two_ways = held_grammar one_way only_a two_ways holds_one_way (subst (λ b. HoldsConforming b two_ways) (sym (some_is e)) g) in
-    absurd (cc same)
+    other_rules (held_grammar one_way only_a sample_rules holds_one_way (subst (λ b. HoldsConforming b sample_rules) (sym (some_is e)) g))
 
 pub returns-clause-no_text : goal.returns-clause-no_text
 returns-clause-no_text c s (bytes, e, g, f) = absurd (cc f)
@@ -35,4 +39,4 @@ pub returns-clause-other_number : goal.returns-clause-other_number
 returns-clause-other_number c (g, e) = let f : 5 ≡ 10 = ap length e ∙ length_of_two_lines in omega (arith, f)
 
 pub returns-clause-not_held : goal.returns-clause-not_held
-returns-clause-not_held c s (g, e) = let same : only_a ≡ sample_rules = held_grammar sample_grammar only_a sample_rules g sample_conforms in absurd (cc same)
+returns-clause-not_held c s (g, e) = other_rules (held_grammar sample_grammar only_a sample_rules g sample_conforms)
