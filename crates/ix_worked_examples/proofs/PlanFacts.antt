@@ -1,5 +1,5 @@
 -- What holds of the closures of plans of literals.
-use Rattle.std.proofs.Common.{rules, ◌≡◌, refl, sym, subst, ◌∙◌, ◌+◌, ◌≤◌, ℕ, List, length, Some, arith, slice_get}
+use Rattle.std.proofs.Common.{◌≡◌, refl, sym, subst, ◌∙◌, ◌+◌, ◌≤◌, ℕ, List, length, Some, arith, slice_get}
 use Rattle.ix_model.specs.declared.rules.Sym.{Sym}
 use Rattle.ix_model.specs.declared.rules.Sym.TheVariants as sy
 use Rattle.ix_model.specs.declared.rules.Terminal.{Terminal}
@@ -16,7 +16,6 @@ use Rattle.ix_model.specs.Closure.Closed.{Called, start, by_edge, Desc, waiting,
 use Rattle.ix_closure_laws.specs.ClosedLaws.{Covers, IsLastFrom}
 use Rattle.ix_model.specs.Closure.Useful.{sub_at, Useful}
 use Rattle.ix_closure_laws.specs.TwoWays.{HasTwoPivots}
-use Rattle.ix_examples.specs.SmallPlans.{literal}
 use Rattle.ix_model.proofs.SlotPlaces.{same_slot}
 use Rattle.ix_model.proofs.SlotReaders.{next_sym}
 use Rattle.ix_closure_laws.proofs.ClosedTrees.{desc_trees, part_trees}

@@ -1,10 +1,11 @@
-ghost use Rattle.std.specs.Prelude.{◌≡◌, ℕ, List, [], ◌∷◌, ◌++◌, Option, Some, length, codes};
+ghost use Rattle.std.specs.Prelude.{◌≡◌, ℕ, List, [], ◌∷◌, ◌++◌, Option, Some, None, length, codes};
 ghost use Rattle.ix_model.specs.declared.grammar.Mark.TheVariants.{Attribute};
 ghost use Rattle.ix_model.specs.Derivations.Derives.{Ambiguous};
 ghost use Rattle.ix_model.specs.Grammars.Breach.{version, code_point, range, class, undefined, duplicate};
 ghost use Rattle.ix_model.specs.Documents.Dyn.{attribute_at_top, not_one_element, bad_name, attribute_xmlns, same_attribute, bad_character};
-ghost use Rattle.ix_model.specs.Answers.Outcome.{no_form, grammar_not_utf8, not_conforming, refused, conforms, failed, message_of};
-ghost use Rattle.ix_model.specs.Answers.Answer.{Answer};
+ghost use Rattle.ix_model.specs.Answers.Outcome.{Outcome, no_form, grammar_not_utf8, not_conforming, refused, conforms, failed, message_of};
+ghost use Rattle.ix_model.specs.Answers.Answer.{Answered, Answer};
+ghost use Rattle.ix_answer_laws.specs.AnswerLaws.{AreHeld};
 ghost use Rattle.ix_examples.specs.SmallAnswers.{check_g, parse_g_t, holding, holding_grammar, one_way, both_ways};
 ghost use Rattle.ix_examples.specs.SmallSpellings.{pairs_text};
 ghost use Rattle.ix_examples.specs.SmallRoots.{two_roots, ordinal_way, attribute_ways, lines_way};
@@ -76,4 +77,15 @@ pub fn lines()
     ensures character { message_of (refused (bad_character 1)) ≡ codes "ixml: E06: character #1 is not allowed in XML\n" }
     ensures zero { message_of (refused (bad_character 0)) ≡ codes "ixml: E06: character #0 is not allowed in XML\n" }
     ensures nothing { message_of (failed 0 1 1) ≡ [] }
+{}
+
+/// The files that words name are held: all of them, and only those count. Without them there is no answer.
+pub fn held_files()
+    ensures both { (grammar text : List ℕ) → AreHeld parse_g_t (holding grammar text) }
+    ensures no_text { (grammar : List ℕ) → ¬ (AreHeld parse_g_t (holding_grammar grammar)) }
+    ensures grammar { (grammar : List ℕ) → AreHeld check_g (holding_grammar grammar) }
+    ensures no_grammar { ¬ (AreHeld check_g (λ name. None)) }
+    ensures sample { AreHeld (codes "sample" ∷ codes "5" ∷ []) (λ name. None) }
+    ensures no_words { AreHeld [] (λ name. None) }
+    ensures no_answer { (outcome : Outcome) → ¬ (Answered check_g (λ name. None) outcome) }
 {}

@@ -21,6 +21,7 @@ pub mod places;
 pub mod plans;
 pub mod readings;
 pub mod refusals;
+pub mod samples;
 pub mod sizes;
 pub mod spelling;
 pub mod spellings;

@@ -1,5 +1,5 @@
 use Rattle.std.proofs.Common.{◌≡◌, ℕ, List, length, arith, refl}
-use Rattle.ix_model.specs.Answers.Outcome.{Outcome, no_form, grammar_too_long, grammar_not_utf8, no_grammar, too_deep, not_conforming, conforms, text_too_long, text_not_utf8, failed, refused, document}
+use Rattle.ix_model.specs.Answers.Outcome.{Outcome, grammar_too_long, grammar_not_utf8, no_grammar, too_deep, not_conforming}
 use Rattle.ix_model.specs.Answers.Answer.{GrammarRefused}
 use Rattle.ix_worked_examples.proofs.outcomes.long_grammars.Goals as goal
 
@@ -9,13 +9,7 @@ only_long bytes (grammar_not_utf8 valid) e h = absurd (omega (arith, e, h.0))
 only_long bytes no_grammar e h = absurd (omega (arith, e, h.0.0))
 only_long bytes too_deep e h = absurd (omega (arith, e, h.0.0))
 only_long bytes (not_conforming fault) e h = absurd (omega (arith, e, h.1.0.0))
-only_long bytes no_form e h = absurd h
-only_long bytes conforms e h = absurd h
-only_long bytes text_too_long e h = absurd h
-only_long bytes (text_not_utf8 valid) e h = absurd h
-only_long bytes (failed offset line column) e h = absurd h
-only_long bytes (refused code) e h = absurd h
-only_long bytes (document gs state) e h = absurd h
+only_long bytes outcome e h = absurd h
 
 pub returns-clause-too_long : goal.returns-clause-too_long
 returns-clause-too_long c = λ bytes e. omega (arith, e)
