@@ -34,10 +34,20 @@ module _ (g : Grammar) (s : List ℕ) where
       let px : x ≡ t = cc ex in
       let py : y ≡ u = cc ey in
       let pz : z ≡ v = cc ez in
-      let pq : q ≡ w = cc eq in
-      (k, l, m, c, d, e, f, refl,
+      let pq : q ≡ w = cc eq in (
+        k,
+        l,
+        m,
+        c,
+        d,
+        e,
+        f,
+        refl,
         subst (λ b. Derives g s c b i k) px (subst (λ (b : ℕ). Derives g s c x b k) (sym p) hc),
-        subst (λ b. Derives g s d b k l) py hd, subst (λ b. Derives g s e b l m) pz he, subst (λ b. Derives g s f b m j) pq hf)
+        subst (λ b. Derives g s d b k l) py hd,
+        subst (λ b. Derives g s e b l m) pz he,
+        subst (λ b. Derives g s f b m j) pq hf,
+      )
   four_derived no_tree t u v w i j h = absurd (omega (arith, h.0))
   four_derived (and no_tree f) t u v w i j h = absurd (omega (arith, h.0))
   four_derived (and (and no_tree e) f) t u v w i j h = absurd (omega (arith, h.0))

@@ -22,7 +22,7 @@ use Rattle.ix_model.specs.Answers.Decoding.{decoded}
 use Rattle.ix_model.specs.Answers.Sample.{sample_line, sample_text}
 use Rattle.ix_examples.specs.SmallGrammars.{deleted, call, marked_call, digits}
 use Rattle.ix_sample.proofs.TextForm.{text_decoded}
-use Rattle.ix_sample_laws.specs.SampleRules.{letters, some_of, sample_rules}
+use Rattle.ix_sample_laws.specs.SampleRules.{letters, sample_rules}
 
 -- characters stand behind what is before them
 stands : (s front cs rest : List ℕ) (i j : ℕ) → s ≡ front ++ (cs ++ rest) → i ≡ length front → i + length cs ≡ j → StandsAt s cs i j
@@ -51,14 +51,14 @@ module _ (s : List ℕ) (ms : List Member) where
   further_run [] front rest i k j ds e p q h r = (ds, subst (λ (n : ℕ). IsRun ds i n) (omega (arith, q)) r)
   further_run (c ∷ cs) front rest i k j ds e p q h r =
       further_run cs (front ++ (c ∷ [])) rest i (k + 1) j (again ds (text k (k + 1))) (behind s front (c ∷ []) (cs ++ rest) e) (omega (arith, p, length-append front (c ∷ []))) (omega (arith, q)) h.1
-          (refl, k, r, item front c (cs ++ rest) k (k + 1) e p refl h.0)
+      (refl, k, r, item front c (cs ++ rest) k (k + 1) e p refl h.0)
 
   -- characters of the set, one or more, are a run
   run : (cs front rest : List ℕ) (i j : ℕ) → s ≡ front ++ (cs ++ rest) → i ≡ length front → i + length cs ≡ j → 0 < length cs → AllByRecursion (λ c. IsOfSome c ms) cs → (ds : Repeated) × IsRun ds i j
   run [] front rest i j e p q some h = absurd (omega (arith, some))
   run (c ∷ cs) front rest i j e p q some h =
       further_run cs (front ++ (c ∷ [])) rest i (i + 1) j (one (text i (i + 1))) (behind s front (c ∷ []) (cs ++ rest) e) (omega (arith, p, length-append front (c ∷ []))) (omega (arith, q)) h.1
-          (item front c (cs ++ rest) i (i + 1) e p refl h.0)
+      (item front c (cs ++ rest) i (i + 1) e p refl h.0)
 
 are_digits : (cs : List ℕ) → AllDigits 10 cs → AllByRecursion (λ c. IsOfSome c (digits ∷ [])) cs
 are_digits [] h = tt
@@ -94,9 +94,10 @@ module _ (s : List ℕ) where
       let w = word ((front ++ ds) ++ codes ":") (codes "\n" ++ rest) (a + 1) (a + 3) e2 p2 (omega arith) in
       let colon : Derives sample_rules s (text a (a + 1)) (One (deleted (codes ":"))) a (a + 1) = (refl, refl, inl (_, _, refl, stands s (front ++ ds) (codes ":") (codes "ab\n" ++ rest) a (a + 1) e1 p1 refl)) in
       let feed : Derives sample_rules s (text (a + 3) j) (One (Lit (Some Deleted) (Code (codes "a")))) (a + 3) j =
-          (refl, refl, inl (_, _, refl, stands s (((front ++ ds) ++ codes ":") ++ codes "ab") (codes "\n") rest (a + 3) j e3 p3 (omega (arith, q, length-append ds (codes ":ab\n"))))) in
-      (node 1 0 (and (and (and (and no_tree n.0) (text a (a + 1))) w.0) (text (a + 3) j)),
-      ((_, _, refl, (_, refl, refl)), _, (_, refl, (_, refl, refl)), refl, (a + 3, _, (a + 1, _, (a, _, (i, _, refl, refl, n.1), refl, colon), refl, w.1), refl, feed)))
+      (refl, refl, inl (_, _, refl, stands s (((front ++ ds) ++ codes ":") ++ codes "ab") (codes "\n") rest (a + 3) j e3 p3 (omega (arith, q, length-append ds (codes ":ab\n"))))) in (
+        node 1 0 (and (and (and (and no_tree n.0) (text a (a + 1))) w.0) (text (a + 3) j)),
+        ((_, _, refl, (_, refl, refl)), _, (_, refl, (_, refl, refl)), refl, (a + 3, _, (a + 1, _, (a, _, (i, _, refl, refl, n.1), refl, colon), refl, w.1), refl, feed)),
+      )
 
   -- the lines from 1 to this number
   lines : (n : ℕ) (rest : List ℕ) → n < 2 ^ 32 → s ≡ sample_text (suc n) ++ rest → (ds : Repeated) × Repeats sample_rules s ds (Call None (codes "line")) None 0 (length (sample_text (suc n)))

@@ -1,5 +1,5 @@
 -- Each derivation of the sample's text gives a document.
-use Rattle.std.proofs.Common.{◌≡◌, refl, ap, sym, subst, ◌∙◌, ◌⊎◌, ◌^◌, ◌<◌, ◌≤◌, ℕ, zero, suc, List, [], ◌∷◌, ◌++◌, None, codes, arith}
+use Rattle.std.proofs.Common.{◌≡◌, refl, sym, subst, ◌⊎◌, ◌^◌, ◌<◌, ◌≤◌, ℕ, zero, suc, List, [], ◌∷◌, None, codes, arith}
 use mathlib.Core.Logic.{inl, inr}
 use Rattle.std.specs.Prelude.{decimal}
 use Rattle.std.specs.List.{AllByRecursion}
@@ -11,7 +11,7 @@ use Rattle.ix_model.specs.declared.grammar.Term.{Star}
 use Rattle.ix_model.specs.declared.grammar.Factor.{Call}
 use Rattle.ix_model.specs.Derivations.Trees.{Tree, node, no_item, list, no_tree, and, Repeated}
 use Rattle.ix_model.specs.Derivations.Derives.{IsDerivation}
-use Rattle.ix_model.specs.Documents.Bare.{Bares, none, bare, bare_repeated}
+use Rattle.ix_model.specs.Documents.Bare.{bare_repeated}
 use Rattle.ix_model.specs.Documents.Gives.{Givens, element, nothing, followed, gives_all, gives_root}
 use Rattle.ix_model.specs.Documents.XmlNames.{is_xml_char}
 use Rattle.ix_model.specs.Documents.Dyn.{HasNoRefusal}
@@ -35,7 +35,7 @@ module _ (s : List ℕ) (fit : AllByRecursion IsCharacter s) where
   of_root e (inl p) = subst (λ x. HasNoRefusal (gives_root s sample_rules (node 0 0 (and no_tree x)))) (sym p) (log_alone nothing nothing_fits)
   of_root e (inr (ds, p, h)) =
       subst (λ x. HasNoRefusal (gives_root s sample_rules (node 0 0 (and no_tree x)))) (sym p)
-          (log_alone (gives_all s (bare_repeated sample_rules ds (Star (Call None (codes "line")) None))) (lines_fit s fit (bare_repeated sample_rules ds (Star (Call None (codes "line")) None)) (bare_lines ds h)))
+      (log_alone (gives_all s (bare_repeated sample_rules ds (Star (Call None (codes "line")) None))) (lines_fit s fit (bare_repeated sample_rules ds (Star (Call None (codes "line")) None)) (bare_lines ds h)))
 
   -- a derivation of characters of XML gives a document
   derivation_gives : (d : Tree) → IsDerivation sample_rules s d → HasNoRefusal (gives_root s sample_rules d)
@@ -61,8 +61,8 @@ text_fits : (n : ℕ) → n < 2 ^ 64 → AllByRecursion IsCharacter (sample_text
 text_fits zero small = tt
 text_fits (suc n) small =
     all_append IsCharacter (sample_text n) (sample_line (suc n)) (text_fits n (omega (arith, small)))
-        (all_append IsCharacter (decimal (suc n)) (codes ":ab\n") (digits_fit (decimal (suc n)) (decimal_is_IsNumeral (suc n) small).0.1)
-            (printed 58 (omega arith) (omega arith), (printed 97 (omega arith) (omega arith), (printed 98 (omega arith) (omega arith), (line_feed, tt)))))
+    (all_append IsCharacter (decimal (suc n)) (codes ":ab\n") (digits_fit (decimal (suc n)) (decimal_is_IsNumeral (suc n) small).0.1)
+    (printed 58 (omega arith) (omega arith), (printed 97 (omega arith) (omega arith), (printed 98 (omega arith) (omega arith), (line_feed, tt)))))
 
 pub sample_document : (n : ℕ) → n ≤ 10000 → (d : Tree) → IsDerivation sample_rules (decoded (sample_text n)) d → HasNoRefusal (gives_root (decoded (sample_text n)) sample_rules d)
 sample_document n small =

@@ -1,18 +1,14 @@
 -- What lines give to the document: elements, each with an attribute, and in it an element with a run of characters or nothing.
-use Rattle.std.proofs.Common.{◌≡◌, ◌≢◌, refl, ap, sym, subst, ◌∙◌, ◌⊎◌, ◌-◌, ℕ, zero, suc, Bool, true, false, List, [], ◌∷◌, ◌++◌, None, take, drop, codes, arith}
+use Rattle.std.proofs.Common.{◌≡◌, ◌≢◌, refl, ap, sym, subst, ◌∙◌, ◌⊎◌, ◌-◌, ℕ, zero, suc, Bool, true, false, List, [], ◌∷◌, ◌++◌, None, take, drop, codes}
 use mathlib.Core.Logic.{inl, inr}
-use Rattle.std.specs.Prelude.{IsTrue}
 use Rattle.std.specs.List.{AllByRecursion}
-use Rattle.ix_model.specs.declared.grammar.Mark.{Mark}
 use Rattle.ix_model.specs.declared.grammar.Mark.TheVariants.{Element, Attribute}
-use Rattle.ix_model.specs.declared.grammar.TMark.TheVariants.{Deleted}
-use Rattle.ix_model.specs.declared.grammar.Chars.TheVariants.{Code}
 use Rattle.ix_model.specs.declared.grammar.Term.{Term, One, Star}
 use Rattle.ix_model.specs.declared.grammar.Factor.{Call}
-use Rattle.ix_model.specs.Derivations.Trees.{Tree, text, list, Repeated, one, again, again_after}
-use Rattle.ix_model.specs.Documents.Bare.{Bare, bare_text, bare_node, Bares, none, more, join, bare, bare_repeated}
-use Rattle.ix_model.specs.Documents.Gives.{Given, attribute, element, run, Givens, nothing, followed, put_run, join_given, shown_text, value, values, gives, gives_all}
-use Rattle.ix_model.specs.Documents.XmlNames.{is_xml_name, is_xml_name_start, is_xml_name_char, is_xml_char}
+use Rattle.ix_model.specs.Derivations.Trees.{Tree, text, Repeated, one, again, again_after}
+use Rattle.ix_model.specs.Documents.Bare.{bare_text, bare_node, Bares, none, more, join, bare, bare_repeated}
+use Rattle.ix_model.specs.Documents.Gives.{attribute, element, run, Givens, nothing, followed, put_run, join_given, shown_text, values, gives_all}
+use Rattle.ix_model.specs.Documents.XmlNames.{is_xml_name, is_xml_name_start, is_xml_name_char}
 use Rattle.ix_model.specs.Documents.Dyn.{attribute_names, value_characters, content_names, content_characters, content_attributes}
 use Rattle.ix_model.proofs.AllOf.{all_append}
 use Rattle.ix_model.proofs.Forming.{factor_of_one, factor_of_star}
@@ -68,14 +64,14 @@ bare_of_line ns ws a b c d = simp (factor_of_one, out_lit, out_call) refl
 bare_line : (d : Tree) → IsLine d → AreBareLines (bare sample_rules d (call (codes "line")))
 bare_line d (ns, ws, a, b, c, e, p, hn, hw) =
     subst AreBareLines (sym (ap (λ x. bare sample_rules x (call (codes "line"))) p ∙ bare_of_line ns ws a b c e))
-        (refl, refl, (_, _, a, b, c, e, refl, bare_texts (some_of digits) ns hn, bare_texts (some_of letters) ws hw), tt)
+    (refl, refl, (_, _, a, b, c, e, refl, bare_texts (some_of digits) ns hn, bare_texts (some_of letters) ws hw), tt)
 
 -- the bare trees of lines
 pub bare_lines : (ds : Repeated) → AreLines ds → AreBareLines (bare_repeated sample_rules ds (Star (Call None (codes "line")) None))
 bare_lines (one d) h = subst (λ f. AreBareLines (bare sample_rules d (One f))) (sym (factor_of_star (Call None (codes "line")) None)) (bare_line d h)
 bare_lines (again ds d) h =
     join_lines (bare_repeated sample_rules ds (Star (Call None (codes "line")) None)) _ (bare_lines ds h.0)
-        (subst (λ f. AreBareLines (bare sample_rules d (One f))) (sym (factor_of_star (Call None (codes "line")) None)) (bare_line d h.1))
+    (subst (λ f. AreBareLines (bare sample_rules d (One f))) (sym (factor_of_star (Call None (codes "line")) None)) (bare_line d h.1))
 bare_lines (again_after ds p d) h = absurd h
 
 -- ---- what they give
@@ -190,6 +186,6 @@ module _ (s : List ℕ) (fit : AllByRecursion IsCharacter s) where
   lines_fit none h = nothing_fits
   lines_fit (more (bare_node name mark bs) rest) (p, q, l, h) =
       subst (λ x. Fits (gives_all s (more (bare_node x mark bs) rest))) (sym p)
-          (subst (λ m. Fits (gives_all s (more (bare_node (codes "line") m bs) rest))) (sym q)
-              (more_fits (codes "line") (gives_all s bs) (gives_all s rest) name_line (bare_line_fits bs l) (lines_fit rest h)))
+      (subst (λ m. Fits (gives_all s (more (bare_node (codes "line") m bs) rest))) (sym q)
+      (more_fits (codes "line") (gives_all s bs) (gives_all s rest) name_line (bare_line_fits bs l) (lines_fit rest h)))
   lines_fit (more x rest) h = absurd h

@@ -7,9 +7,8 @@ use Rattle.ix_model.specs.declared.grammar.TMark.TheVariants.{Deleted}
 use Rattle.ix_model.specs.declared.grammar.Chars.TheVariants.{Quoted, Code}
 use Rattle.ix_model.specs.declared.grammar.Member.{Member}
 use Rattle.ix_model.specs.declared.grammar.Rule.{Rule}
-use Rattle.ix_model.specs.declared.grammar.Alt.{Alt}
 use Rattle.ix_model.specs.declared.grammar.Term.{Term, One, Star}
-use Rattle.ix_model.specs.declared.grammar.Factor.{Factor, Lit, Set, Call}
+use Rattle.ix_model.specs.declared.grammar.Factor.{Lit, Set, Call}
 use Rattle.ix_model.specs.Grammars.Written.{IsAlternative, IsOfRule}
 use Rattle.ix_model.specs.Derivations.Trees.{Tree, text, node, no_item, list, Trees, no_tree, and, Repeated, one, again, again_after}
 use Rattle.ix_model.specs.Derivations.Derives.{Derives, DerivesAll, Repeats, IsDerivation}
