@@ -1,5 +1,5 @@
 -- Numbers in order, a number below another that something holds of, and lists that are the same.
-use Rattle.std.proofs.Common.{◌≡◌, ◌≢◌, refl, ap, sym, subst, ◌⊎◌, ℕ, zero, suc, ◌<◌, List, [], ◌∷◌, Option, None, Some, slice_get, arith}
+use Rattle.std.proofs.Common.{◌≡◌, ◌≢◌, refl, ap, subst, ◌⊎◌, ℕ, zero, suc, ◌<◌, List, [], ◌∷◌, Option, None, Some, arith}
 use mathlib.Core.Logic.{inl, inr}
 
 -- of two numbers one is the lesser, or they are the same

@@ -1,3 +1,4 @@
+pub mod AnswerThere
 pub mod Commands
 pub mod Firsts
 pub mod Offsets

@@ -1,8 +1,7 @@
 -- Words and files have one answer.
-use Rattle.std.proofs.Common.{◌≡◌, ◌≢◌, refl, ap, sym, subst, ◌∙◌, ◌⊎◌, ℕ, ◌<◌, ◌≤◌, List, [], ◌∷◌, ◌++◌, length, Option, Some, arith}
+use Rattle.std.proofs.Common.{◌≡◌, ◌≢◌, refl, ap, sym, subst, ◌∙◌, ◌⊎◌, ℕ, ◌<◌, ◌≤◌, List, length, Option, Some, arith}
 use mathlib.Core.Logic.{inl, inr}
 use Rattle.std.specs.Prelude.{IsUtf8}
-use Rattle.std.specs.List.{AllByRecursion}
 use Rattle.std.specs.Str.Lossy.{utf8_valid_len}
 use Rattle.ix_model.specs.declared.grammar.Grammar.{Grammar}
 use Rattle.ix_model.specs.declared.counts.Counts.{Counts}
@@ -25,7 +24,7 @@ use Rattle.ix_model.specs.Derivations.Offset.{Offset}
 use Rattle.ix_model.specs.Answers.Places.{line_of, column_of}
 use Rattle.ix_model.specs.Answers.CommandLine.{Command, parse, check, sample}
 use Rattle.ix_model.specs.Answers.Sample.{sample_grammar, sample_text}
-use Rattle.ix_model.specs.Answers.Outcome.{Outcome, no_form, grammar_too_long, grammar_not_utf8, no_grammar, too_deep, not_conforming, conforms, text_too_long, text_not_utf8, failed, refused, document, summarised}
+use Rattle.ix_model.specs.Answers.Outcome.{Outcome, grammar_too_long, grammar_not_utf8, no_grammar, too_deep, not_conforming, conforms, text_too_long, text_not_utf8, failed, refused, document, summarised}
 use Rattle.ix_model.specs.Answers.Answer.{IsText, HoldsGrammar, HoldsConforming, GrammarRefused, Parsed, TextAnswered, Measured, CommandAnswered, Answered}
 use Rattle.ix_model.specs.Answers.Limits.{grammar_limit, text_limit, depth_limit}
 use Rattle.ix_figure_laws.proofs.FiguresOnce.{figures_are_one}

@@ -1,6 +1,6 @@
 //! Laws of words, of what comes out of a text, and of answers: there is one at most, or none. Each function's contract is
 //! the law; the bodies are empty.
-ghost use Rattle.ix_answer_laws.specs.AnswerLaws.{AnswerIsOne};
+ghost use Rattle.ix_answer_laws.specs.AnswerLaws.{AnswerIsOne, AnswerIsThere};
 ghost use Rattle.ix_answer_laws.specs.CommandLaws.{CommandIsOne, CommandOrNone};
 ghost use Rattle.ix_answer_laws.specs.OutcomeLaws.{OffsetIsOne, RefusalIsOne, RefusalOrNone};
 
@@ -32,4 +32,9 @@ pub fn command_is_one()
 /// Words ask for a command, or have no form.
 pub fn command_or_none()
     ensures { CommandOrNone }
+{}
+
+/// Words have an outcome where the files that they name are there; so they have a status, an output and a message.
+pub fn answer_is_there()
+    ensures { AnswerIsThere }
 {}

@@ -1,28 +1,17 @@
 -- Things of a kind have one number.
-use Rattle.std.proofs.Common.{◌≡◌, ℕ, zero, suc, ◌≤◌, List, [], ◌∷◌, length, remove, Some, slice_get, refl, ap, ap₂, arith}
+use Rattle.std.proofs.Common.{◌≡◌, ℕ, suc, ◌≤◌, List, [], ◌∷◌, length, remove, Some, slice_get, refl, ap, ap₂, arith}
 use Rattle.std.proofs.lemmas.List.Edits.{length-remove}
 use Rattle.std.proofs.lemmas.Option.{slice_get_within}
 use Rattle.ix_model.specs.declared.counts.Counts.{Counts}
 use Rattle.ix_model.specs.Closure.Counting.{Lists, HasCount}
 use Rattle.ix_model.specs.Closure.Figures.{AreCounts}
 use Rattle.ix_model.specs.Expansion.Parts.{Parts}
+use Rattle.ix_figure_laws.proofs.Places.{IsIn, left_over}
 
 module _ {X : Type 0} where
   -- no two places of the list have the same
   abbrev AreOnce : List X → Type 0
   AreOnce xs = (m n : ℕ) (x : X) → slice_get xs m ≡ Some x → slice_get xs n ≡ Some x → m ≡ n
-
-  -- the element stands somewhere in the list
-  abbrev IsIn : List X → X → Type 0
-  IsIn xs x = (n : ℕ) × (slice_get xs n ≡ Some x)
-
-  -- what stands at another place than the one that is taken out is left
-  left_over : (xs : List X) (m n : ℕ) (x : X) → slice_get xs n ≡ Some x → (m ≡ n → ⊥) → IsIn (remove xs m) x
-  left_over [] m n x e apart = absurd (cc e)
-  left_over (y ∷ ys) zero zero x e apart = absurd (apart refl)
-  left_over (y ∷ ys) zero (suc n) x e apart = (n, e)
-  left_over (y ∷ ys) (suc m) zero x e apart = (0, e)
-  left_over (y ∷ ys) (suc m) (suc n) x e apart = let p = left_over ys m n x e (λ q. apart (ap suc q)) in (suc p.0, p.1)
 
   -- a list with no element twice whose elements are all in another is no longer than it
   no_longer : (xs ys : List X) → AreOnce xs → ((n : ℕ) (x : X) → slice_get xs n ≡ Some x → IsIn ys x) → length xs ≤ length ys

@@ -1,1 +1,2 @@
 pub mod SampleConforms
+pub mod SamplePlanned

@@ -8,6 +8,7 @@ use Rattle.std.specs.Str.{chars}
 use Rattle.ix_model.specs.Spelling.Characters.{is_blank, is_name_start, is_name_part}
 use Rattle.ix_model.specs.Spelling.Spells.{Spells}
 use Rattle.ix_model.specs.Spelling.Depth.{depth}
+use Rattle.ix_model.specs.Grammars.Names.{HasUniqueNames}
 use Rattle.ix_model.specs.Grammars.Breach.{Fault, Breach}
 use Rattle.ix_model.specs.Answers.Decoding.{decoded}
 use Rattle.ix_model.specs.Answers.Sample.{sample_grammar}
@@ -34,6 +35,9 @@ spelled = reads sample_grammar sample_rules refl
 flat : depth sample_rules ≡ 0
 flat = simp the_folds refl
 
+pub unique_names : HasUniqueNames sample_rules
+unique_names = unique sample_rules refl
+
 without_fault : (fault : Fault) → ¬ (Breach sample_rules fault)
 without_fault = unrefused sample_rules (record {
   version = no_version sample_rules refl;
@@ -41,7 +45,7 @@ without_fault = unrefused sample_rules (record {
   ranges = simp the_folds (omega arith, (omega arith, tt));
   classes = simp the_folds tt;
   calls = simp the_folds ((1, (_, refl, refl)), ((2, (_, refl, refl)), ((3, (_, refl, refl)), tt)));
-  names = unique sample_rules refl;
+  names = unique_names;
 })
 
 pub sample_conforms : HoldsConforming sample_grammar sample_rules
