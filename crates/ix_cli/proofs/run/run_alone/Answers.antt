@@ -36,7 +36,7 @@ returns-in-Ok-clause-sample g c lines workers is =
     (g.M.Sink.faults c.args.msg.now) (g.M.Sink.faults c.write.new.msg) c.in-Ok.output c.write.result c.write.ensures (c.in-Ok.ensures.sample lines workers is)
 
 pub returns-in-Ok-clause-no_form : goal.returns-in-Ok-clause-no_form
-returns-in-Ok-clause-no_form g c none = let h = c.in-Ok.ensures.form in absurd (none h.0 h.1)
+returns-in-Ok-clause-no_form g c none = absurd (none c.in-Ok.ensures.form.0 c.in-Ok.ensures.form.1)
 
 pub returns-in-Err-clause-sample : goal.returns-in-Err-clause-sample
 returns-in-Err-clause-sample g c lines workers is =
