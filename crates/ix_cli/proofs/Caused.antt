@@ -160,16 +160,16 @@ module _ (words : List (List ℕ)) (files : Told) where
 
       why_measured : (o : Outcome) → Measured g s o → (w : Why) × (status_of o ≡ status_why w)
       why_measured (document gs state) h = absurd h
-      why_measured (summarised text counts output) (gs, state, h, rest) = let w = why_answered (document gs state) h in (w.0, w.1)
+      why_measured (summarised text counts output) (gs, state, h, plan, counted, e, f) = let w = why_answered (document gs state) h in (w.0, w.1)
       why_measured o h = why_answered o h
 
   why : (o : Outcome) → IsReply words files o → (w : Why) × (status_of o ≡ status_why w)
   why o (inl h) = (by_no_form h.0, ap status_of h.1)
-  why o (inr (parse grammar text workers, is, bytes, e, inl r)) = why_refused (parse grammar text workers) is grammar bytes refl e o r
-  why o (inr (parse grammar text workers, is, bytes, e, inr (g, c, s, t, a))) = why_answered (parse grammar text workers) is g s (bytes, e, c, t) o a
-  why o (inr (check grammar, is, bytes, e, inl r)) = why_refused (check grammar) is grammar bytes refl e o r
-  why o (inr (check grammar, is, bytes, e, inr (g, c, q))) = (by_check (grammar, bytes, g, is, e, c), ap status_of q)
-  why o (inr (sample lines workers, is, g, c, m)) = why_measured (sample lines workers) is g _ (c, refl) o m
+  why o (inr (parse grammar text workers, is, (bytes, e, inl r))) = why_refused (parse grammar text workers) is grammar bytes refl e o r
+  why o (inr (parse grammar text workers, is, (bytes, e, inr (g, c, s, t, a)))) = why_answered (parse grammar text workers) is g s (bytes, e, c, t) o a
+  why o (inr (check grammar, is, (bytes, e, inl r))) = why_refused (check grammar) is grammar bytes refl e o r
+  why o (inr (check grammar, is, (bytes, e, inr (g, c, q)))) = (by_check (grammar, bytes, g, is, e, c), ap status_of q)
+  why o (inr (sample lines workers, is, (g, c, m))) = why_measured (sample lines workers) is g _ (c, refl) o m
 
   -- of two causes none has the lesser status
   none_less : (w v : Why) → status_why w < status_why v → ⊥

@@ -1,11 +1,16 @@
 -- What is written of an outcome of a text.
-use Rattle.std.proofs.Common.{◌≡◌, refl, ap, ◌<◌, ◌++◌, ◌∷◌, [], ℕ, List, length, Vec, Global, arith}
+use Rattle.std.proofs.Common.{◌≡◌, refl, ap, ◌∙◌, ◌<◌, ◌++◌, ◌∷◌, [], ℕ, List, length, Vec, Global, arith}
 use Rattle.std.proofs.lemmas.List.{length-append}
+use Rattle.ix_model.specs.declared.counts.Counts.{Counts}
 use Rattle.ix_model.specs.declared.grammar.Grammar.{Grammar}
 use Rattle.ix_model.specs.declared.state.State.{State}
 use Rattle.ix_model.specs.declared.state.State.TheVariants.{Single, Ambiguous}
 use Rattle.ix_model.specs.Answers.Answer.{TextAnswered}
-use Rattle.ix_model.specs.Answers.Outcome.{failed, document}
+use Rattle.ix_model.specs.Answers.Decoding.{decoded}
+use Rattle.ix_model.specs.Answers.Outcome.{failed, document, summarised}
+use Rattle.ix_model.specs.Answers.Sample.{summary_of}
+use Rattle.ix_model.specs.Closure.Figures.{IsCounted}
+use Rattle.ix_model.specs.Expansion.Parts.{Parts}
 use Rattle.ix_model.specs.Documents.Dyn.{HasNoRefusal}
 use Rattle.ix_model.specs.Documents.FailedXml.{failed_xml}
 use Rattle.ix_model.specs.Documents.Gives.{Givens}
@@ -14,7 +19,8 @@ use Rattle.ix_marks.specs.InRange.{AreIn}
 use Rattle.ix_marks.specs.MarkedLists.{MarkedLists}
 use Rattle.ix_marks.specs.Standing.{StandsFor}
 use Rattle.ix_serial.proofs.Documents.{document_bytes}
-use Rattle.ix_cli.specs.Shown.{ShowsText}
+use Rattle.ix_cli.specs.declared.output.Output.{Output}
+use Rattle.ix_cli.specs.Shown.{Shows, ShowsText, ShowsFigures}
 
 module _ (g : Grammar) (bytes : List ℕ) where
   -- what is answered as a document has no code
@@ -42,15 +48,32 @@ module _ (g : Grammar) (bytes : List ℕ) where
     },
   )
 
-  pub failed_shown : (offset line column : ℕ) (v : Vec ℕ Global) → TextAnswered g bytes (failed offset line column) → v.items ≡ failed_xml offset line column → ShowsText g bytes (record { status = 1; bytes = v })
-  unfolding failed_xml
-  failed_shown offset line column v h e = (
-    failed offset line column,
-    h,
+  -- and its figures are shown in its place
+  pub figures_shown : (gs : Givens) (state : State) (plan : Parts) (counts : Counts) (size : ℕ) (v w : Vec ℕ Global) → TextAnswered g bytes (document gs state) →
+      IsCounted g (decoded bytes) plan counts → v.items ≡ xml gs state → size ≡ length v.items → w.items ≡ summary_of (length bytes) counts size → ShowsFigures g bytes (record { status = 0; bytes = w })
+  figures_shown gs state plan counts size v w h c e o f = (
+    summarised (length bytes) counts size,
+    (gs, state, h, plan, c, refl, o ∙ ap length e),
     record {
       status = refl;
-      bytes = e;
+      bytes = f;
       some = omega arith;
       silent = refl;
     },
   )
+
+  pub failed_shown : (offset line column : ℕ) (output : Output) → TextAnswered g bytes (failed offset line column) → Shows (failed offset line column) output → ShowsText g bytes output
+  failed_shown offset line column output h s = (failed offset line column, h, s)
+
+  pub failed_figures : (offset line column : ℕ) (output : Output) → TextAnswered g bytes (failed offset line column) → Shows (failed offset line column) output → ShowsFigures g bytes output
+  failed_figures offset line column output h s = (failed offset line column, h, s)
+
+-- what is written of a text without a derivation
+pub failed_written : (offset line column : ℕ) (v : Vec ℕ Global) → v.items ≡ failed_xml offset line column → Shows (failed offset line column) (record { status = 1; bytes = v })
+unfolding failed_xml
+failed_written offset line column v e = record {
+  status = refl;
+  bytes = e;
+  some = omega arith;
+  silent = refl;
+}

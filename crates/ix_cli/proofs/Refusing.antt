@@ -1,5 +1,5 @@
 -- What a refusal answers.
-use Rattle.std.proofs.Common.{◌≡◌, ◌≢◌, refl, sym, ◌∙◌, subst, ℕ, List, [], Option, None, Some, IfSome, String, Global}
+use Rattle.std.proofs.Common.{◌≡◌, ◌≢◌, ◌⊎◌, refl, ap, sym, ◌∙◌, subst, ℕ, List, [], Option, None, Some, IfSome, String, Global, arith}
 use Rattle.std.specs.Io.KnownBytes.{Appends}
 use Rattle.std.proofs.KnownBytes.{Appends-nil}
 use mathlib.Core.Logic.{inl, inr}
@@ -13,12 +13,13 @@ use Rattle.ix_edge.specs.Told.{Told, held}
 use Rattle.ix_cli.specs.declared.answer.Answer.{Answer}
 use Rattle.ix_cli.specs.declared.answer.Answer.TheVariants as answer
 use Rattle.ix_cli.specs.Answered.{IsAnswered, IsMessage}
+use Rattle.ix_cli.specs.Lines as lines
 use Rattle.ix_cli.specs.Named.{Names}
 use Rattle.ix_cli.specs.Refused.{IsRefusedFor, IsRefused}
 use Rattle.ix_cli.specs.Says.{Says, Refuses}
 use Rattle.ix_cli.specs.Table.{IsReply}
 use Rattle.ix_cli.specs.Unread.{IsNext}
-use Rattle.ix_cli.proofs.Statuses.{refusal_told, fault_told}
+use Rattle.ix_cli.proofs.Statuses.{refusal_told, fault_told, refusal_not_two, fault_not_two}
 
 module _ (words : List (List ℕ)) (out mo mn : Option (List ℕ)) (before now : ℕ) where
   -- the answer of the table, with nothing written and its line said
@@ -39,12 +40,12 @@ module _ (words : List (List ℕ)) (out mo mn : Option (List ℕ)) (before now :
   refused_replied : (told : Option Told) (old new : List ℕ → ℕ) (a : Answer) (status : ℕ) → IsRefused words told old new a → Refuses mo mn before now a status →
       ((name : String Global) → a ≡ answer.Read name → ⊥) → status ≢ 9 → IsAnswered words told out out status (Says mo mn before now)
   refused_replied told old new answer.Words status h (inl r) b c = replied told no_form status _ (words_replied told h) r.0 refl refl r.1
-  refused_replied told old new (answer.Grammar x) status (command, is, n, h) (inl r) b c =
-      let t = refusal_told x n in replied told (outcome_of x) status _ (command_replied told command (outcome_of x) is h) (r.0 ∙ t.0) t.1 t.2 r.1
-  refused_replied told old new (answer.Text f) status (command, is, n, h) (inl r) b c =
-      let t = fault_told f n in replied told (fault_outcome f) status _ (command_replied told command (fault_outcome f) is h) (r.0 ∙ t.0) t.1 t.2 r.1
+  refused_replied told old new (answer.Grammar x) status h (inl r) b c =
+      let t = refusal_told x h.2.0 in replied told (outcome_of x) status _ (command_replied told h.0 (outcome_of x) h.1 h.2.1) (r.0 ∙ t.0) t.1 t.2 r.1
+  refused_replied told old new (answer.Text f) status h (inl r) b c =
+      let t = fault_told f h.2.0 in replied told (fault_outcome f) status _ (command_replied told h.0 (fault_outcome f) h.1 h.2.1) (r.0 ∙ t.0) t.1 t.2 r.1
   refused_replied told old new (answer.Read name) status h (inl r) b c = absurd (b name refl)
-  refused_replied told old new answer.Write status (command, is, h) (inl r) b c = absurd h
+  refused_replied told old new answer.Write status h (inl r) b c = absurd h.2
   refused_replied told old new answer.Memory status h (inl r) b c = absurd (c r.0)
   refused_replied told old new a status h (inr r) b c = absurd (c r.0)
 
@@ -64,8 +65,31 @@ module _ (words : List (List ℕ)) (out mo mn : Option (List ℕ)) (before now :
   -- so where no count rose, each refusal but for want of memory is the table's answer
   pub refused_complete : (told : Option Told) (old new : List ℕ → ℕ) (a : Answer) (status : ℕ) → IsRefused words told old new a → Refuses mo mn before now a status →
       ((name : List ℕ) → Names words name → ¬ (Rose (old name) (new name))) → status ≢ 9 → IsAnswered words told out out status (Says mo mn before now)
-  refused_complete told old new (answer.Read name) status (command, is, rose, next) r n c = absurd (n _ (named_next told command _ is next) rose)
+  refused_complete told old new (answer.Read name) status h r n c = absurd (n _ (named_next told h.0 _ h.1 h.2.1) h.2.0)
   refused_complete told old new a status h r n c = refused_replied told old new a status h r (λ name e. cc e) c
+
+  -- words without a form have status 2, or 9 for want of memory
+  pub formless_status : (told : Option Told) (old new : List ℕ → ℕ) (a : Answer) (status : ℕ) → IsRefused words told old new a → Refuses mo mn before now a status → HasNoForm words → (status ≡ 2) ⊎ (status ≡ 9)
+  formless_status told old new a status h (inr r) none = inr r.0
+  formless_status told old new answer.Words status h (inl r) none = inl r.0
+  formless_status told old new answer.Memory status h (inl r) none = inr r.0
+  formless_status told old new (answer.Grammar x) status h (inl r) none = absurd (none h.0 h.1)
+  formless_status told old new (answer.Text f) status h (inl r) none = absurd (none h.0 h.1)
+  formless_status told old new (answer.Read name) status h (inl r) none = absurd (none h.0 h.1)
+  formless_status told old new answer.Write status h (inl r) none = absurd (none h.0 h.1)
+
+  -- and no other words have status 2
+  pub two_is_formless : (told : Option Told) (old new : List ℕ → ℕ) (a : Answer) (status : ℕ) → IsRefused words told old new a → Refuses mo mn before now a status → status ≡ 2 → HasNoForm words
+  two_is_formless told old new a status h (inr r) e = absurd (omega (arith, e, r.0))
+  two_is_formless told old new answer.Words status h (inl r) e = h
+  two_is_formless told old new (answer.Grammar x) status h (inl r) e = absurd (refusal_not_two x (sym r.0 ∙ e))
+  two_is_formless told old new (answer.Text f) status h (inl r) e = absurd (fault_not_two f (sym r.0 ∙ e))
+  two_is_formless told old new a status h (inl r) e = absurd (omega (arith, e, r.0))
+
+  -- want of memory has status 9
+  pub wanting_status : (a : Answer) (status : ℕ) → a ≡ answer.Memory → Refuses mo mn before now a status → status ≡ 9
+  wanting_status a status e (inl r) = r.0 ∙ ap lines.status_of e
+  wanting_status a status e (inr r) = r.0
 
 -- what a refusal says is the line of an answer that has its status
 pub refusal_said : (old new : Option (List ℕ)) (before now : ℕ) (a : Answer) (status : ℕ) → Refuses old new before now a status → IsMessage status (Says old new before now)

@@ -1,11 +1,11 @@
 -- From what was loaded and found to the table of answers.
-use Rattle.std.proofs.Common.{◌≡◌, refl, ap, sym, ◌∙◌, subst, ℕ, ◌≤◌, List, take, Option, None, Some, Result, Ok, Err, IfErr, IfSome, arith}
+use Rattle.std.proofs.Common.{◌≡◌, refl, ap, sym, ◌∙◌, subst, ℕ, ◌≤◌, List, take, Option, None, Some, Result, Ok, Err, IfOk, IfErr, IfSome, arith}
 use Rattle.std.specs.Result.{IsErrAnd}
 use mathlib.Core.Logic.{inl, inr}
 use Rattle.ix_model.specs.declared.counts.Counts.{Counts}
 use Rattle.ix_model.specs.declared.grammar.Grammar.{Grammar}
 use Rattle.ix_model.specs.Answers.Answer.{HoldsConforming, TextAnswered, Measured, CommandAnswered}
-use Rattle.ix_model.specs.Answers.CommandLine.{parse, check, sample}
+use Rattle.ix_model.specs.Answers.CommandLine.{Command, parse, check, sample, IsCommand, HasNoForm}
 use Rattle.ix_model.specs.Answers.Outcome.{Outcome, conforms, summarised, status_of}
 use Rattle.ix_model.specs.Answers.Decoding.{decoded}
 use Rattle.ix_model.specs.Answers.Sample.{sample_grammar, sample_text}
@@ -18,13 +18,17 @@ use Rattle.ix_engine.specs.declared.refusal.Refusal.{Refusal}
 use Rattle.ix_engine.specs.declared.refusal.Refusal.TheVariants as refusal
 use Rattle.ix_engine.specs.Compiled.{outcome_of, IsRefusalOf}
 use Rattle.ix_engine.specs.Parsed.{IsFault}
+use Rattle.ix_words.specs.declared.command.WordsFault.{WordsFault}
+use Rattle.ix_words.specs.declared.command.WordsFault.TheVariants as words_fault
 use Rattle.ix_cli.specs.declared.answer.Answer.{Answer}
 use Rattle.ix_cli.specs.declared.answer.Answer.TheVariants as answer
 use Rattle.ix_cli.specs.declared.output.Output.{Output}
 use Rattle.ix_cli.specs.Loaded.{Holds, IsLoadFault, IsGrammarFault}
-use Rattle.ix_cli.specs.Means.{of_refusal, of_fault}
-use Rattle.ix_cli.specs.Refused.{IsRefusedFor}
-use Rattle.ix_cli.specs.Shown.{Shows, ShowsText, ShowsFigures, ShowsCommand}
+use Rattle.ix_cli.specs.Means.{of_words, of_refusal, of_fault}
+use Rattle.ix_cli.specs.Named.{HasCommand}
+use Rattle.ix_cli.specs.Refused.{IsRefusedFor, IsRefused}
+use Rattle.ix_cli.specs.Sampled.{IsSampled}
+use Rattle.ix_cli.specs.Shown.{Shows, ShowsText, ShowsFigures, ShowsCommand, ShowsReply}
 use Rattle.ix_answer_laws.proofs.OneAnswer.{refused_or_held}
 use Rattle.ix_sample_laws.specs.SampleRules.{sample_rules}
 use Rattle.ix_sample_laws.proofs.SampleConforms.{sample_conforms}
@@ -126,3 +130,47 @@ module _ (lines : ℕ) (small : lines ≤ 10000) (g : Grammar) (c : HoldsConform
 pub handed_on : {T : Type 0} (r : Result T Answer) (P : Answer → Type 0) (a : Answer) → IsErrAnd r (λ x. x ≡ a) → P a → IfErr r P
 handed_on (Ok v) P a e p = tt
 handed_on (Err x) P a e p = subst P (sym e) p
+
+pub sampled_on : (r : Result Output Answer) (a : Answer) → IsErrAnd r (λ x. x ≡ a) → a ≡ answer.Memory → IsSampled r
+sampled_on (Ok output) a e p = absurd e
+sampled_on (Err x) a e p = e ∙ p
+
+-- what holds of all files holds of those that tell
+pub told_of_all : (r : Result Output Answer) (told : Option Told) (P : Told → Output → Type 0) → ((files : Told) → IfOk r (P files)) → IfOk r (λ output. IfSome told (λ files. P files output))
+told_of_all (Ok output) None P h = tt
+told_of_all (Ok output) (Some files) P h = h files
+told_of_all (Err a) told P h = tt
+
+-- ---- from a command to the words that ask for it
+
+-- words that are refused
+pub words_refused : (words : List (List ℕ)) (told : Option Told) (old new : List ℕ → ℕ) (f : WordsFault) → (f ≡ words_fault.NoForm → HasNoForm words) → IsRefused words told old new (of_words f)
+words_refused words told old new words_fault.NoForm h = h refl
+words_refused words told old new words_fault.Memory h = tt
+
+-- words that ask for figures are refused for want of memory alone
+pub words_sampled : (words : List (List ℕ)) (r : Result Output Answer) (f : WordsFault) → IsErrAnd r (λ x. x ≡ of_words f) → (f ≡ words_fault.NoForm → HasNoForm words) → HasCommand words → IsSampled r
+words_sampled words r words_fault.NoForm e h k = absurd (h refl k.0 k.1)
+words_sampled words r words_fault.Memory e h k = sampled_on r answer.Memory e refl
+
+module _ (words : List (List ℕ)) (command : Command) (is : IsCommand words command) where
+  pub has_command : (r : Result Output Answer) → IfOk r (λ output. HasCommand words)
+  has_command (Ok output) = (command, is)
+  has_command (Err a) = tt
+
+  refused_for : (told : Option Told) (old new : List ℕ → ℕ) (a : Answer) → IsRefusedFor command told old new a → IsRefused words told old new a
+  refused_for told old new answer.Words h = absurd h
+  refused_for told old new answer.Memory h = tt
+  refused_for told old new (answer.Grammar r) h = (command, is, h)
+  refused_for told old new (answer.Text f) h = (command, is, h)
+  refused_for told old new (answer.Read name) h = (command, is, h)
+  refused_for told old new answer.Write h = absurd h
+
+  pub command_refused : (told : Option Told) (old new : List ℕ → ℕ) (r : Result Output Answer) → IfErr r (IsRefusedFor command told old new) → IfErr r (IsRefused words told old new)
+  command_refused told old new (Ok output) h = tt
+  command_refused told old new (Err a) h = refused_for told old new a h
+
+  pub command_shown : (told : Option Told) (r : Result Output Answer) → IfOk r (λ output. IfSome told (λ files. ShowsCommand command files output)) → IfOk r (λ output. IfSome told (λ files. ShowsReply words files output))
+  command_shown None (Ok output) h = tt
+  command_shown (Some files) (Ok output) h = (h.0, inr (command, is, h.1), h.2)
+  command_shown told (Err a) h = tt

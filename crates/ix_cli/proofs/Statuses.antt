@@ -29,6 +29,15 @@ fault_not_read : (f : ParseFault) → fault_status f ≢ 7
 fault_not_read fault.Memory e = omega (arith, e)
 fault_not_read f e = omega (arith, e)
 
+-- nor that of words without a form
+pub refusal_not_two : (r : Refusal) → refusal_status r ≢ 2
+refusal_not_two refusal.Memory e = omega (arith, e)
+refusal_not_two r e = omega (arith, e)
+
+pub fault_not_two : (f : ParseFault) → fault_status f ≢ 2
+fault_not_two fault.Memory e = omega (arith, e)
+fault_not_two f e = omega (arith, e)
+
 -- only the answer that names a file has status 7
 pub named_file : (a : Answer) (P : List ℕ → Type 0) → status_of a ≡ 7 → P (line_of a) → (name : String Global) × (a ≡ answer.Read name) × P (read_line (string_bytes name))
 named_file (answer.Read name) P e p = (name, refl, p)

@@ -1,5 +1,5 @@
 -- What is answered where something goes to the output.
-use Rattle.std.proofs.Common.{◌≢◌, sym, ◌∙◌, subst, ℕ, List, [], Option, None, Some, IfSome}
+use Rattle.std.proofs.Common.{◌≡◌, ◌≢◌, ◌⊎◌, sym, ◌∙◌, subst, ℕ, List, [], Option, None, Some, IfSome}
 use Rattle.std.specs.Io.KnownBytes.{Appends, Keeps}
 use Rattle.std.proofs.KnownBytes.{Appends-nil, Appends-kept}
 use mathlib.Core.Logic.{inl, inr}
@@ -29,3 +29,10 @@ written_answered words old new mo mn out_before out_now before now output (Some 
     (o, r, e ∙ s.status, subst (Appends old new) s.bytes a, subst (Says mo mn before now) (sym s.silent) (λ n. kept_grows mo mn k))
 written_answered words old new mo mn out_before out_now before now output (Some files) status h (inr (inl w)) b c = absurd (b w.0)
 written_answered words old new mo mn out_before out_now before now output (Some files) status h (inr (inr w)) b c = absurd (c w.0)
+
+-- figures are written whole, cut off, or not at all for want of memory
+pub written_sample : (old new mo mn : Option (List ℕ)) (out_before out_now before now : ℕ) (output : Output) (status : ℕ) → IsWritten old new out_before out_now mo mn before now output status → output.status ≡ 0 →
+    (status ≡ 0) ⊎ ((status ≡ 8) ⊎ (status ≡ 9))
+written_sample old new mo mn out_before out_now before now output status (inl w) e = inl (w.0 ∙ e)
+written_sample old new mo mn out_before out_now before now output status (inr (inl w)) e = inr (inl w.0)
+written_sample old new mo mn out_before out_now before now output status (inr (inr w)) e = inr (inr w.0)

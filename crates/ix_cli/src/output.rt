@@ -88,7 +88,7 @@ pub fn figures_of(alloc: Global, grammar: &Grammar, text: &[u8]) -> Result<Outpu
     }
 }
 
-fn failed_output(alloc: Global, offset: u64, line: u64, column: u64) -> Result<Output, AllocError>
+fn failed_output(alloc: Global, offset: u32, line: u32, column: u32) -> Result<Output, AllocError>
     ensures { IfOk result (Shows (failed offset line column)) }
 {
     Ok(Output {

@@ -19,7 +19,6 @@ use crate::lines::{MEMORY, message};
 use crate::output::Output;
 use crate::telling::{refuse, tell};
 use ix_edge::{Files, Sink};
-use ix_words::words;
 use std::alloc::Global;
 
 /// Runs the command that the words after the program's name spell, alone and on one thread, however many workers it asks
@@ -89,7 +88,7 @@ fn answer_of<F: Files>(alloc: Global, words: &[String], files: &mut F) -> Result
     ensures same { F.told files.new ≡ F.told files.old }
     ensures later { (name : List ℕ) → F.faults files.old name ≤ F.faults files.new name }
 {
-    let command = words(alloc, words)?;
+    let command = ix_words::words(alloc, words)?;
     carried_out(alloc, &command, files)
 }
 

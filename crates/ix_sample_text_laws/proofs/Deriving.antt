@@ -22,7 +22,7 @@ use Rattle.ix_model.specs.Answers.Decoding.{decoded}
 use Rattle.ix_model.specs.Answers.Sample.{sample_line, sample_text}
 use Rattle.ix_examples.specs.SmallGrammars.{deleted, call, marked_call, digits}
 use Rattle.ix_sample.proofs.TextForm.{text_decoded}
-use Rattle.ix_sample_laws.specs.SampleRules.{letters, some_of, sample_rules}
+use Rattle.ix_sample_laws.specs.SampleRules.{letters, sample_rules}
 
 -- characters stand behind what is before them
 stands : (s front cs rest : List ℕ) (i j : ℕ) → s ≡ front ++ (cs ++ rest) → i ≡ length front → i + length cs ≡ j → StandsAt s cs i j

@@ -1,5 +1,5 @@
 -- Each derivation of the sample's text gives a document.
-use Rattle.std.proofs.Common.{◌≡◌, refl, ap, sym, subst, ◌∙◌, ◌⊎◌, ◌^◌, ◌<◌, ◌≤◌, ℕ, zero, suc, List, [], ◌∷◌, ◌++◌, None, codes, arith}
+use Rattle.std.proofs.Common.{◌≡◌, refl, sym, subst, ◌⊎◌, ◌^◌, ◌<◌, ◌≤◌, ℕ, zero, suc, List, [], ◌∷◌, None, codes, arith}
 use mathlib.Core.Logic.{inl, inr}
 use Rattle.std.specs.Prelude.{decimal}
 use Rattle.std.specs.List.{AllByRecursion}
@@ -11,7 +11,7 @@ use Rattle.ix_model.specs.declared.grammar.Term.{Star}
 use Rattle.ix_model.specs.declared.grammar.Factor.{Call}
 use Rattle.ix_model.specs.Derivations.Trees.{Tree, node, no_item, list, no_tree, and, Repeated}
 use Rattle.ix_model.specs.Derivations.Derives.{IsDerivation}
-use Rattle.ix_model.specs.Documents.Bare.{Bares, none, bare, bare_repeated}
+use Rattle.ix_model.specs.Documents.Bare.{bare_repeated}
 use Rattle.ix_model.specs.Documents.Gives.{Givens, element, nothing, followed, gives_all, gives_root}
 use Rattle.ix_model.specs.Documents.XmlNames.{is_xml_char}
 use Rattle.ix_model.specs.Documents.Dyn.{HasNoRefusal}

@@ -1,18 +1,14 @@
 -- What lines give to the document: elements, each with an attribute, and in it an element with a run of characters or nothing.
-use Rattle.std.proofs.Common.{◌≡◌, ◌≢◌, refl, ap, sym, subst, ◌∙◌, ◌⊎◌, ◌-◌, ℕ, zero, suc, Bool, true, false, List, [], ◌∷◌, ◌++◌, None, take, drop, codes, arith}
+use Rattle.std.proofs.Common.{◌≡◌, ◌≢◌, refl, ap, sym, subst, ◌∙◌, ◌⊎◌, ◌-◌, ℕ, zero, suc, Bool, true, false, List, [], ◌∷◌, ◌++◌, None, take, drop, codes}
 use mathlib.Core.Logic.{inl, inr}
-use Rattle.std.specs.Prelude.{IsTrue}
 use Rattle.std.specs.List.{AllByRecursion}
-use Rattle.ix_model.specs.declared.grammar.Mark.{Mark}
 use Rattle.ix_model.specs.declared.grammar.Mark.TheVariants.{Element, Attribute}
-use Rattle.ix_model.specs.declared.grammar.TMark.TheVariants.{Deleted}
-use Rattle.ix_model.specs.declared.grammar.Chars.TheVariants.{Code}
 use Rattle.ix_model.specs.declared.grammar.Term.{Term, One, Star}
 use Rattle.ix_model.specs.declared.grammar.Factor.{Call}
-use Rattle.ix_model.specs.Derivations.Trees.{Tree, text, list, Repeated, one, again, again_after}
-use Rattle.ix_model.specs.Documents.Bare.{Bare, bare_text, bare_node, Bares, none, more, join, bare, bare_repeated}
-use Rattle.ix_model.specs.Documents.Gives.{Given, attribute, element, run, Givens, nothing, followed, put_run, join_given, shown_text, value, values, gives, gives_all}
-use Rattle.ix_model.specs.Documents.XmlNames.{is_xml_name, is_xml_name_start, is_xml_name_char, is_xml_char}
+use Rattle.ix_model.specs.Derivations.Trees.{Tree, text, Repeated, one, again, again_after}
+use Rattle.ix_model.specs.Documents.Bare.{bare_text, bare_node, Bares, none, more, join, bare, bare_repeated}
+use Rattle.ix_model.specs.Documents.Gives.{attribute, element, run, Givens, nothing, followed, put_run, join_given, shown_text, values, gives_all}
+use Rattle.ix_model.specs.Documents.XmlNames.{is_xml_name, is_xml_name_start, is_xml_name_char}
 use Rattle.ix_model.specs.Documents.Dyn.{attribute_names, value_characters, content_names, content_characters, content_attributes}
 use Rattle.ix_model.proofs.AllOf.{all_append}
 use Rattle.ix_model.proofs.Forming.{factor_of_one, factor_of_star}

@@ -7,9 +7,8 @@ use Rattle.ix_model.specs.declared.grammar.TMark.TheVariants.{Deleted}
 use Rattle.ix_model.specs.declared.grammar.Chars.TheVariants.{Quoted, Code}
 use Rattle.ix_model.specs.declared.grammar.Member.{Member}
 use Rattle.ix_model.specs.declared.grammar.Rule.{Rule}
-use Rattle.ix_model.specs.declared.grammar.Alt.{Alt}
 use Rattle.ix_model.specs.declared.grammar.Term.{Term, One, Star}
-use Rattle.ix_model.specs.declared.grammar.Factor.{Factor, Lit, Set, Call}
+use Rattle.ix_model.specs.declared.grammar.Factor.{Lit, Set, Call}
 use Rattle.ix_model.specs.Grammars.Written.{IsAlternative, IsOfRule}
 use Rattle.ix_model.specs.Derivations.Trees.{Tree, text, node, no_item, list, Trees, no_tree, and, Repeated, one, again, again_after}
 use Rattle.ix_model.specs.Derivations.Derives.{Derives, DerivesAll, Repeats, IsDerivation}
@@ -17,8 +16,7 @@ use Rattle.ix_model.proofs.Forms.{factor_form, out_lit, out_set}
 use Rattle.ix_examples.specs.SmallGrammars.{alternative, rule, deleted, call, marked_call, digits}
 use Rattle.ix_examples.proofs.Inversions.{one_alternative, one_derived, plus_derived, star_derived}
 use Rattle.ix_sample_laws.specs.SampleRules.{letters, some_of, sample_rules}
-use Rattle.ix_conformance_laws.proofs.ByTests.{unique}
-use Rattle.ix_model.specs.Grammars.Names.{HasUniqueNames}
+use Rattle.ix_sample_laws.proofs.SampleConforms.{unique_names}
 use Rattle.ix_sample_text_laws.proofs.DerivedForms.{four, terminal_is_text, any_call_is_node, four_derived}
 
 -- a list of texts
@@ -49,9 +47,6 @@ of_rule : (r : ℕ) (name : List ℕ) (ts : List Term) → slice_get sample_rule
 of_rule r name ts p a terms h =
     let e : h.0 ≡ rule name (alternative ts ∷ []) = cc (h.1, p) in
     one_alternative ts a terms (subst (λ (x : Rule). IsAlternative x.alts a terms) e h.2)
-
-unique_names : HasUniqueNames sample_rules
-unique_names = unique sample_rules refl
 
 module _ (s : List ℕ) where
   -- what a call of a rule with one alternative derives

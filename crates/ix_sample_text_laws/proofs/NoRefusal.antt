@@ -1,10 +1,10 @@
 -- No code holds of one element whose names, attributes and characters are all fit for XML.
-use Rattle.std.proofs.Common.{◌≡◌, ◌≢◌, refl, ap, sym, subst, ◌∙◌, ◌<◌, ℕ, zero, suc, List, [], ◌∷◌, Some, slice_get, codes, arith}
+use Rattle.std.proofs.Common.{◌≡◌, ◌≢◌, subst, ◌∙◌, ℕ, zero, suc, List, [], ◌∷◌, Some, slice_get, codes, arith}
 use Rattle.std.specs.Prelude.{IsTrue}
 use Rattle.std.specs.List.{AllByRecursion}
 use Rattle.ix_model.specs.Documents.Gives.{Givens}
 use Rattle.ix_model.specs.Documents.XmlNames.{is_xml_name, is_xml_char}
-use Rattle.ix_model.specs.Documents.Dyn.{Refusal, attribute_at_top, not_one_element, bad_name, attribute_xmlns, same_attribute, bad_character, attribute_names, element_count, character_count, content_attributes, all_names, all_characters, HasRepeat, HasXmlns, HasNoRefusal}
+use Rattle.ix_model.specs.Documents.Dyn.{attribute_at_top, not_one_element, bad_name, attribute_xmlns, same_attribute, bad_character, attribute_names, element_count, character_count, content_attributes, all_names, all_characters, HasRepeat, HasXmlns, HasNoRefusal}
 use Rattle.ix_expansion_laws.proofs.Covering.{at_all}
 
 abbrev pub IsName : List ℕ → Type 0

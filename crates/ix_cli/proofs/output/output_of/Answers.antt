@@ -10,8 +10,8 @@ returns-in_ok-bytes-in-Tree-clause-ok c =
     subst (IsOutcome c.args.grammar.now c.args.text.now) c.in-Tree.is c.in_ok-plan.ensures.ok in
     document_shown c.args.grammar.now c.args.text.now c.in-Tree.plan.rules.names c.in-Tree.marked o.0 c.in-Tree.state c.in_ok-bytes-in-Tree.field-0 o.3 o.2 o.1 (c.in_ok-bytes-in-Tree.ensures o.0 o.2)
 
-pub returns-in_ok-failed_bytes-in-Failed-clause-ok : goal.returns-in_ok-failed_bytes-in-Failed-clause-ok
-returns-in_ok-failed_bytes-in-Failed-clause-ok c =
+pub returns-in_ok-failed_output-in-Failed-clause-ok : goal.returns-in_ok-failed_output-in-Failed-clause-ok
+returns-in_ok-failed_output-in-Failed-clause-ok c =
     let o : IsOutcome c.args.grammar.now c.args.text.now (outcome.Failed c.in-Failed.offset c.in-Failed.line c.in-Failed.column c.in-Failed.counts) =
     subst (IsOutcome c.args.grammar.now c.args.text.now) c.in-Failed.is c.in_ok-plan.ensures.ok in
-    failed_shown c.args.grammar.now c.args.text.now c.in-Failed.offset c.in-Failed.line c.in-Failed.column c.in_ok-failed_bytes-in-Failed.field-0 o.0 c.in_ok-failed_bytes-in-Failed.ensures
+    failed_shown c.args.grammar.now c.args.text.now c.in-Failed.offset c.in-Failed.line c.in-Failed.column c.in_ok-failed_output-in-Failed.field-0 o.0 c.in_ok-failed_output-in-Failed.ensures

@@ -1,39 +1,31 @@
-use Rattle.std.proofs.Common.{◌≡◌, subst, map, take, string_bytes}
-use Rattle.ix_engine.specs.Parsed.{IsFault}
-use Rattle.ix_cli.specs.Loaded.{Holds}
-use Rattle.ix_cli.specs.Means.{of_fault}
+use Rattle.std.proofs.Common.{ap, map, string_bytes, Err}
+use Rattle.ix_model.specs.Answers.CommandLine.{sample}
+use Rattle.ix_words.specs.Asked.{asked}
+use Rattle.ix_cli.specs.Means.{of_words}
 use Rattle.ix_cli.specs.Refused.{IsRefused}
-use Rattle.ix_cli.specs.Shown.{ShowsText}
-use Rattle.ix_cli.proofs.Replies.{grammar_refused, text_refused, output_shown, handed_on}
+use Rattle.ix_cli.proofs.Replies.{words_refused, words_sampled, has_command, command_refused, command_shown, handed_on}
 use Rattle.ix_cli.proofs.run.answer_of.Goals as goal
 
-pub returns-in_err-grammar-clause-err : goal.returns-in_err-grammar-clause-err
-returns-in_err-grammar-clause-err g c =
+pub returns-in_err-command-clause-err : goal.returns-in_err-command-clause-err
+returns-in_err-command-clause-err g c =
+    let words = map string_bytes c.args.words.now in
     let told = g.F.Files.told c.args.files.now in
-    let old = g.F.Files.faults c.args.files.now in
-    let new = g.F.Files.faults c.load_grammar.new.files in
-    handed_on c.from_residual.result (IsRefused (map string_bytes c.args.words.now) told old new) c.in_err-grammar.field-0.0 c.from_residual.ensures.1
-    (grammar_refused (map string_bytes c.args.words.now) c.in-Some.grammar.now c.in-Some.text.now c.in-Some.ensures.some told old new _ c.in_err-grammar.ensures.err)
+    let count = g.F.Files.faults c.args.files.now in
+    let f = c.in_err-command.field-0.0 in
+    handed_on c.from_residual.result (IsRefused words told count count) (of_words f) c.from_residual.ensures.1 (words_refused words told count count f (λ e. c.in_err-command.ensures.no_form (ap Err e)))
 
-pub returns-in_err-output_of-clause-err : goal.returns-in_err-output_of-clause-err
-returns-in_err-output_of-clause-err g c =
-    let told = g.F.Files.told c.args.files.now in
-    let old = g.F.Files.faults c.args.files.now in
-    let new = g.F.Files.faults c.load_text.new.files in
-    let v = c.in_ok-text.text.items in
-    let held : Holds told c.in-Some.text.now (λ b. v ≡ take 16777217 b) =
-    subst (λ o. Holds o c.in-Some.text.now (λ b. v ≡ take 16777217 b)) c.load_grammar.ensures.same c.in_ok-text.ensures.ok in
-    let fault : IsFault c.in_ok-grammar.grammar v c.in_err-output_of.field-0.0 =
-    subst (λ s. IsFault c.in_ok-grammar.grammar s c.in_err-output_of.field-0.0) c.deref.ensures.value c.in_err-output_of.ensures.err in
-    handed_on c.from_residual-in_err-output_of.result (IsRefused (map string_bytes c.args.words.now) told old new) (of_fault c.in_err-output_of.field-0.0) c.from_residual-in_err-output_of.ensures.1
-    (text_refused (map string_bytes c.args.words.now) c.in-Some.grammar.now c.in-Some.text.now c.in-Some.ensures.some c.in_ok-grammar.grammar v told old new c.in_err-output_of.field-0.0 c.in_ok-grammar.ensures.ok held fault)
+pub returns-in_err-command-clause-sample : goal.returns-in_err-command-clause-sample
+returns-in_err-command-clause-sample g c = λ lines workers is.
+    let f = c.in_err-command.field-0.0 in
+    words_sampled (map string_bytes c.args.words.now) c.from_residual.result f c.from_residual.ensures.1 (λ e. c.in_err-command.ensures.no_form (ap Err e)) (sample lines workers, is)
+
+pub returns-clause-form : goal.returns-clause-form
+returns-clause-form g c = has_command (map string_bytes c.args.words.now) (asked c.in_ok-command.command) c.in_ok-command.ensures.ok c.carried_out.result
 
 pub returns-clause-ok : goal.returns-clause-ok
-returns-clause-ok g c =
-    let told = g.F.Files.told c.args.files.now in
-    let v = c.in_ok-text.text.items in
-    let held : Holds told c.in-Some.text.now (λ b. v ≡ take 16777217 b) =
-    subst (λ o. Holds o c.in-Some.text.now (λ b. v ≡ take 16777217 b)) c.load_grammar.ensures.same c.in_ok-text.ensures.ok in
-    let shown : ShowsText c.in_ok-grammar.grammar v c.in_ok-output_of.field-0 =
-    subst (λ s. ShowsText c.in_ok-grammar.grammar s c.in_ok-output_of.field-0) c.deref.ensures.value c.in_ok-output_of.ensures.ok in
-    output_shown (map string_bytes c.args.words.now) c.in-Some.grammar.now c.in-Some.text.now c.in-Some.ensures.some c.in_ok-grammar.grammar v told c.in_ok-output_of.field-0 c.in_ok-grammar.ensures.ok held shown
+returns-clause-ok g c = command_shown (map string_bytes c.args.words.now) (asked c.in_ok-command.command) c.in_ok-command.ensures.ok (g.F.Files.told c.args.files.now) c.carried_out.result c.carried_out.ensures.ok
+
+pub returns-clause-err : goal.returns-clause-err
+returns-clause-err g c =
+    command_refused (map string_bytes c.args.words.now) (asked c.in_ok-command.command) c.in_ok-command.ensures.ok (g.F.Files.told c.args.files.now) (g.F.Files.faults c.args.files.now) (g.F.Files.faults c.carried_out.new.files) c.carried_out.result
+    c.carried_out.ensures.err

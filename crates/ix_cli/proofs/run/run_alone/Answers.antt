@@ -1,7 +1,8 @@
 use Rattle.std.proofs.Common.{map, string_bytes}
+use mathlib.Core.Logic.{inr}
 use Rattle.ix_cli.specs.Says.{Says}
-use Rattle.ix_cli.proofs.Refusing.{refused_answered, refused_complete, refusal_said}
-use Rattle.ix_cli.proofs.Writing.{answered_caused, written_answered}
+use Rattle.ix_cli.proofs.Refusing.{refused_answered, refused_complete, formless_status, two_is_formless, wanting_status, refusal_said}
+use Rattle.ix_cli.proofs.Writing.{answered_caused, written_answered, written_sample}
 use Rattle.ix_cli.proofs.run.run_alone.Goals as goal
 
 pub returns-in-Ok-clause-causes : goal.returns-in-Ok-clause-causes
@@ -25,9 +26,32 @@ returns-in-Err-clause-answered g c =
     (g.F.Files.told c.args.files.now) (g.F.Files.faults c.args.files.now) (g.F.Files.faults c.answer_of.new.files) c.in-Err.answer c.refuse.result c.in-Err.ensures.err c.refuse.ensures.line
 
 pub returns-in-Err-clause-complete : goal.returns-in-Err-clause-complete
-returns-in-Err-clause-complete g c grammar text form a b d n =
+returns-in-Err-clause-complete g c named b n =
     refused_complete (map string_bytes c.args.words.now) (g.O.Sink.written c.args.out.now) (g.M.Sink.written c.args.msg.now) (g.M.Sink.written c.refuse.new.msg) (g.M.Sink.faults c.args.msg.now) (g.M.Sink.faults c.refuse.new.msg)
-    (g.F.Files.told c.args.files.now) (g.F.Files.faults c.args.files.now) (g.F.Files.faults c.answer_of.new.files) c.in-Err.answer c.refuse.result c.in-Err.ensures.err c.refuse.ensures.line grammar text form a b n
+    (g.F.Files.told c.args.files.now) (g.F.Files.faults c.args.files.now) (g.F.Files.faults c.answer_of.new.files) c.in-Err.answer c.refuse.result c.in-Err.ensures.err c.refuse.ensures.line named n
+
+pub returns-in-Ok-clause-sample : goal.returns-in-Ok-clause-sample
+returns-in-Ok-clause-sample g c lines workers is =
+    written_sample (g.O.Sink.written c.args.out.now) (g.O.Sink.written c.write.new.out) (g.M.Sink.written c.args.msg.now) (g.M.Sink.written c.write.new.msg) (g.O.Sink.faults c.args.out.now) (g.O.Sink.faults c.write.new.out)
+    (g.M.Sink.faults c.args.msg.now) (g.M.Sink.faults c.write.new.msg) c.in-Ok.output c.write.result c.write.ensures (c.in-Ok.ensures.sample lines workers is)
+
+pub returns-in-Ok-clause-no_form : goal.returns-in-Ok-clause-no_form
+returns-in-Ok-clause-no_form g c none = absurd (none c.in-Ok.ensures.form.0 c.in-Ok.ensures.form.1)
+
+pub returns-in-Err-clause-sample : goal.returns-in-Err-clause-sample
+returns-in-Err-clause-sample g c lines workers is =
+    inr (inr (wanting_status (map string_bytes c.args.words.now) (g.O.Sink.written c.args.out.now) (g.M.Sink.written c.args.msg.now) (g.M.Sink.written c.refuse.new.msg) (g.M.Sink.faults c.args.msg.now) (g.M.Sink.faults c.refuse.new.msg)
+    c.in-Err.answer c.refuse.result (c.in-Err.ensures.sample lines workers is) c.refuse.ensures.line))
+
+pub returns-in-Err-clause-no_form : goal.returns-in-Err-clause-no_form
+returns-in-Err-clause-no_form g c none =
+    formless_status (map string_bytes c.args.words.now) (g.O.Sink.written c.args.out.now) (g.M.Sink.written c.args.msg.now) (g.M.Sink.written c.refuse.new.msg) (g.M.Sink.faults c.args.msg.now) (g.M.Sink.faults c.refuse.new.msg)
+    (g.F.Files.told c.args.files.now) (g.F.Files.faults c.args.files.now) (g.F.Files.faults c.answer_of.new.files) c.in-Err.answer c.refuse.result c.in-Err.ensures.err c.refuse.ensures.line none
+
+pub returns-in-Err-clause-words : goal.returns-in-Err-clause-words
+returns-in-Err-clause-words g c two =
+    two_is_formless (map string_bytes c.args.words.now) (g.O.Sink.written c.args.out.now) (g.M.Sink.written c.args.msg.now) (g.M.Sink.written c.refuse.new.msg) (g.M.Sink.faults c.args.msg.now) (g.M.Sink.faults c.refuse.new.msg)
+    (g.F.Files.told c.args.files.now) (g.F.Files.faults c.args.files.now) (g.F.Files.faults c.answer_of.new.files) c.in-Err.answer c.refuse.result c.in-Err.ensures.err c.refuse.ensures.line two
 
 pub returns-in-Err-clause-causes : goal.returns-in-Err-clause-causes
 returns-in-Err-clause-causes g c a b d =
