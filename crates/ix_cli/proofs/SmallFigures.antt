@@ -1,7 +1,6 @@
 -- The worked examples of figures and of outputs.
-use Rattle.std.proofs.Common.{◌≡◌, refl, sym, ap, ◌∙◌, ℕ, List, length, Global, Vec, codes, arith}
+use Rattle.std.proofs.Common.{◌≡◌, refl, sym, ap, ◌∙◌, ℕ, length, Global, Vec, codes, arith}
 use Rattle.std.specs.Fmt.{digits}
-use mathlib.Core.Logic.{inl, inr}
 use Rattle.std.specs.Str.{chars}
 use Rattle.ix_model.specs.declared.state.State.TheVariants.{Single}
 use Rattle.ix_model.specs.Answers.Answer.{Measured}
@@ -15,7 +14,6 @@ use Rattle.ix_worked_examples.proofs.SmallRules.{plan_of_a}
 use Rattle.ix_engine.specs.Examples.{a_counts}
 use Rattle.ix_engine.proofs.SmallCounts.{counts_on_a}
 use Rattle.ix_answer_laws.proofs.OneAnswer.{measured_once}
-use Rattle.ix_cli.specs.declared.output.Output.{Output}
 use Rattle.ix_cli.specs.Shown.{Shows}
 use Rattle.ix_cli.proofs.SmallReplies.{a_answered, one_document}
 

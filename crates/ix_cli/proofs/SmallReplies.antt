@@ -1,6 +1,6 @@
 -- The worked examples of the table of answers.
 use Rattle.std.proofs.Common.{◌≡◌, ◌<◌, refl, sym, ap, ◌∙◌, ℕ, List, [], ◌∷◌, zero, suc, length, Some, take, subst, codes, arith}
-use Rattle.std.specs.Prelude.{◌⊎◌, IsUtf8}
+use Rattle.std.specs.Prelude.{IsUtf8}
 use mathlib.Core.Logic.{inl, inr}
 use lib.Utf8.{encode}
 use Rattle.unicode.specs.GeneralCategory.{general_category}

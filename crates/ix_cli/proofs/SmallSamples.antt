@@ -1,5 +1,5 @@
 -- The worked examples of `sample`, as far as they need no derivation of its text.
-use Rattle.std.proofs.Common.{◌≡◌, ◌<◌, refl, sym, ap, ◌∙◌, subst, ℕ, List, length, codes, arith}
+use Rattle.std.proofs.Common.{◌≡◌, ◌<◌, refl, ◌∙◌, subst, ℕ, List, length, codes, arith}
 use Rattle.std.specs.Prelude.{IsUtf8}
 use Rattle.std.specs.Fmt.{digits}
 use mathlib.Core.Logic.{inl, inr}

@@ -408,8 +408,7 @@ const GRAMMAR: (&str, u64) = ("g", 1_048_577);
 
 const TEXT: (&str, u64) = ("t", 16_777_217);
 
-// Each row: the words, the grammar, and the loads that they lead to. A text is loaded only for a grammar that conforms,
-// and for a sample nothing is.
+// Each row: the words, the grammar, and the loads that they lead to. A text is loaded only for a grammar that conforms.
 #[test]
 fn loads_the_grammar_and_then_the_text(rt: HostRuntime) -> Result<(), Fail> {
     let alloc = rt.alloc();
@@ -427,16 +426,7 @@ fn loads_the_grammar_and_then_the_text(rt: HostRuntime) -> Result<(), Fail> {
         ("parse g t", b"S: a.".as_slice(), [GRAMMAR].as_slice()),
         ("parse g t", b"S".as_slice(), [GRAMMAR].as_slice()),
         ("parse g t", b"\xC3".as_slice(), [GRAMMAR].as_slice()),
-        (
-            "parse g t --workers 3",
-            b"S: \"a\".".as_slice(),
-            [GRAMMAR, TEXT].as_slice(),
-        ),
         ("parse g", b"S: \"a\".".as_slice(), [].as_slice()),
-        ("check g", b"S: \"a\".".as_slice(), [GRAMMAR].as_slice()),
-        ("check g", b"S: a.".as_slice(), [GRAMMAR].as_slice()),
-        ("check g t", b"S: \"a\".".as_slice(), [].as_slice()),
-        ("sample 1", b"S: \"a\".".as_slice(), [].as_slice()),
     ] {
         let inner = SureFiles::new(entries(alloc, grammar, b"a")?);
         let mut files = RecordedFiles::new(alloc, inner);
@@ -448,6 +438,32 @@ fn loads_the_grammar_and_then_the_text(rt: HostRuntime) -> Result<(), Fail> {
         for (load, (name, most)) in files.loads().iter().zip(want.iter()) {
             assert_eq!(rt; load.name.as_str(), *name, "{line}: {status}");
             assert_eq!(rt; load.most, *most, "{line}: {status}");
+        }
+    }
+    Ok(())
+}
+
+// Each row: the words, and how many loads they lead to, of which the first is the grammar's: a check loads no text, and a
+// sample nothing.
+#[test]
+fn loads_only_what_the_command_reads(rt: HostRuntime) -> Result<(), Fail> {
+    let alloc = rt.alloc();
+    for (line, loads) in [
+        ("parse g t --workers 3", 2),
+        ("check g", 1),
+        ("check g t", 0),
+        ("sample 1", 0),
+    ] {
+        let inner = SureFiles::new(entries(alloc, b"S: \"a\".", b"a")?);
+        let mut files = RecordedFiles::new(alloc, inner);
+        let mut out = MemSink::new(alloc, 64, Vec::new(alloc), 0)?;
+        let mut msg = MemSink::new(alloc, 128, Vec::new(alloc), 0)?;
+        let words = words(alloc, line)?;
+        let status = run_alone(alloc, &words, &mut files, &mut out, &mut msg);
+        assert_eq!(rt; files.loads().len(), loads, "{line}: {status}");
+        if let Some(load) = files.loads().first() {
+            assert_eq!(rt; load.name.as_str(), "g", "{line}: {status}");
+            assert_eq!(rt; load.most, 1_048_577, "{line}: {status}");
         }
     }
     Ok(())

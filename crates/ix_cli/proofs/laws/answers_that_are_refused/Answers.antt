@@ -1,4 +1,4 @@
-use Rattle.std.proofs.Common.{[], codes, refl}
+use Rattle.std.proofs.Common.{[], refl}
 use mathlib.Core.Logic.{inl, inr}
 use Rattle.ix_worked_examples.proofs.SmallAnswers.{parses_g_t}
 use Rattle.ix_answer_laws.proofs.Commands.{no_words}

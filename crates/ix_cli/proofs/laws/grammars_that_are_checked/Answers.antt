@@ -1,4 +1,4 @@
-use Rattle.std.proofs.Common.{◌≡◌, refl, [], ◌∷◌, codes}
+use Rattle.std.proofs.Common.{◌≡◌, refl, [], codes}
 use Rattle.ix_model.specs.Answers.Outcome.{conforms, no_grammar, failed}
 use Rattle.ix_examples.specs.SmallAnswers.{check_g, one_way}
 use Rattle.ix_examples.specs.SmallGrammars.{only_a}

@@ -1,5 +1,5 @@
 use Rattle.std.proofs.Common.{◌≡◌, sym, ap, ◌∙◌, [], length, codes, arith}
-use mathlib.Core.Logic.{inl, inr}
+use mathlib.Core.Logic.{inr}
 use Rattle.ix_model.specs.Answers.Outcome.{conforms, output_of}
 use Rattle.ix_examples.specs.SmallAnswers.{one_way}
 use Rattle.ix_worked_examples.proofs.SmallAnswers.{parses_g_t}
