@@ -1,0 +1,13 @@
+pub mod Beginnings
+pub mod Facts
+pub mod Filled
+pub mod Holdings
+pub mod Lending
+pub mod Logs
+pub mod Numbers
+pub mod Orderly
+pub mod Passes
+pub mod Places
+pub mod Steps
+pub mod Totals
+pub mod Views
