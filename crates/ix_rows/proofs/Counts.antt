@@ -11,6 +11,20 @@ some_is a b e = cc
 pub some_none : {A C : Type 0} (a : A) → None ≡ Some a → C
 some_none a e = absurd (cc)
 
+held_in : {A : Type 0} → ℕ × Option A → List (ℕ × Option A) → Option A
+held_in d [] = d.1
+held_in d (x ∷ xs) = x.1
+
+-- the one slot that is out has one value
+pub held_is : {A : Type 0} (word : ℕ) (a b : A) (l : List (ℕ × Option A)) → l ≡ (word, Some a) ∷ [] → l ≡ (word, Some b) ∷ [] → a ≡ b
+unfolding held_in
+held_is word a b l e f = some_is a b (ap (held_in (word, None)) (sym e ∙ f))
+
+-- a list of one has that one alone
+pub only_one : {A : Type 0} (a d : A) (j : ℕ) → get_elem? (a ∷ []) j ≡ some d → (j ≡ 0) × (a ≡ d)
+only_one a d zero e = (refl, some-injective a d e)
+only_one a d (suc j) e = absurd (some-ne-none d (sym e))
+
 module _ {A : Type 0} (f : A → ℕ) where
   pub total_set : (l : List A) (i : ℕ) (v w : A) → get_elem? l i ≡ some v → total f (set l i w) + f v ≡ total f l + f w
   total_set [] i v w e = absurd (some-ne-none v (sym e))

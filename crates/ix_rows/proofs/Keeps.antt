@@ -18,8 +18,8 @@ use Rattle.ix_rows.specs.Orderly.{Orderly, Fits}
 use Rattle.ix_rows.specs.Steps.{tried, released, looked}
 use Rattle.ix_rows.specs.Totals.{total}
 use Rattle.ix_rows.specs.Views.{root_view, spent, left_of, right_of, both_of, merged, holding, giving, lent}
-use Rattle.ix_rows.proofs.Counts.{some_is, some_none, total_set, total_snoc, total_has, total_one, each_set, set_there, at_one}
-use Rattle.ix_rows.proofs.Logs.{begins_all, begins_none, begins_further, begins_length, longer_begins, longest_at, put_here, put_else, updated, updated_here, updated_else, times_append, run_on, times_elsewhere}
+use Rattle.ix_rows.proofs.Counts.{some_is, some_none, held_is, only_one, total_set, total_snoc, total_has, total_one, each_set, set_there, at_one}
+use Rattle.ix_rows.proofs.Logs.{begins_all, begins_none, begins_further, begins_length, longest_begins, put_here, put_else, updated, updated_here, updated_else, times_append, run_on, times_elsewhere}
 
 module _ {T X E : Type 0} (fact : T → ℕ → X → Type 0) (log : X → List E) (topic : T) (first : List (List E)) where
   abbrev V : Type 0
@@ -123,14 +123,6 @@ module _ {T X E : Type 0} (fact : T → ℕ → X → Type 0) (log : X → List 
   stays s r id w none' i j d d' m (inl a) b p p' = some_none m (sym none' ∙ ap (λ (z : V). z.place) a.1 ∙ p)
   stays s r id w none' i j d d' m (inr a) (inl b) p p' = some_none m (sym none' ∙ ap (λ (z : V). z.place) b.1 ∙ p')
   stays s r id w none' i j d d' m (inr a) (inr b) p p' = r.one i j d d' m a.1 b.1 p p'
-
-  held_in : (d : ℕ × Option X) → List (ℕ × Option X) → Option X
-  held_in d [] = d.1
-  held_in d (x ∷ xs) = x.1
-
-  held_is : (word : ℕ) (a b : X) (l : List (ℕ × Option X)) → l ≡ (word, Some a) ∷ [] → l ≡ (word, Some b) ∷ [] → a ≡ b
-  unfolding held_in
-  held_is word a b l e f = some_is a b (ap (held_in (word, None)) (sym e ∙ f))
 
   pub releases : (slots id word new : ℕ) (v : V) (y : X) → new ≢ 0 → v.place ≡ Some word → ((t : T) × (v.topic ≡ Some t) × fact t word y) → Begins (log y) v.took → Live v
       → Allows Rule slots id (v, (word, Some y) ∷ []) word (λ _. new) (λ n. released log (step slots word new 0 none) (v, (word, Some y) ∷ []))
@@ -273,8 +265,7 @@ module _ {T X E : Type 0} (fact : T → ℕ → X → Type 0) (log : X → List 
       let v : V = me.0 in let w : V = merged v in let f = r.fits id v at' in let views' : List V = set s.views id w in
       let much : total lent views' ≡ total lent s.views = as_much lent s.views id v w at' refl in
       let known : (m : ℕ) → Begins (log_at w.known m) (log_at v.known m) × Begins (log_at w.known m) (log_at v.came m) × Begins (r.logs m) (log_at w.known m) =
-      λ m. let h = longer_begins (r.logs m) (log_at v.known m) (log_at v.came m) (f.3 m).0 (f.3 m).1 in
-      subst (λ (z : List E). Begins z (log_at v.known m) × Begins z (log_at v.came m) × Begins (r.logs m) z) (sym (longest_at v.known v.came m)) h in (
+      longest_begins r.logs v.known v.came (λ m. f.3 m) in (
         w,
         keeps,
         tt,
@@ -363,5 +354,4 @@ module _ {T X E : Type 0} (fact : T → ℕ → X → Type 0) (log : X → List 
       logged (y ∷ ys) (suc m) x e = logged ys m x e
 
       only : (j : ℕ) (d : V) → get_elem? (root_view topic first ∷ []) j ≡ some d → (P : ℕ → V → Type 0) → P 0 (root_view topic first) → P j d
-      only zero d e P h = subst (P 0) (some-injective (root_view topic first) d e) h
-      only (suc j) d e P h = absurd (some-ne-none d (sym e))
+      only j d e P h = let is = only_one (root_view topic first) d j e in subst (λ (y : ℕ × V). P y.0 y.1) (λ i. (sym is.0 i, is.1 i)) h

@@ -1,5 +1,5 @@
 -- Beginnings of logs, and runs of numbers.
-use Rattle.std.proofs.Common.{◌≡◌, ◌≢◌, ◌⊎◌, ℕ, zero, suc, ◌+◌, ◌-◌, ◌≤◌, ◌==◌, ◌&&◌, eqb, Bool, true, false, List, [], ◌∷◌, ◌++◌, length, get_or, refl, sym, ap, ap₂, ◌∙◌, subst, ⊎_elim, inl, inr, arith, append-nil, append_assoc, length-append, eq-eqb, ne_eqb}
+use Rattle.std.proofs.Common.{◌≡◌, ◌≢◌, ◌⊎◌, ℕ, zero, suc, ◌+◌, ◌-◌, ◌<◌, ◌≤◌, ◌==◌, ◌&&◌, eqb, Bool, true, false, List, [], ◌∷◌, ◌++◌, length, get_or, refl, sym, ap, ap₂, ◌∙◌, subst, ⊎_elim, inl, inr, arith, append-nil, append_assoc, length-append, eq-eqb, ne_eqb}
 use Rattle.std.specs.Prelude.{if◌then◌else◌}
 use mathlib.Core.Logic.{dite}
 use native.Mathlib.Decide.{ℕ_discrete}
@@ -48,9 +48,6 @@ module _ {A : Type 0} where
       (λ (h : (is_longer xs ys ≡ false) × Begins ys xs). inr (h.0, (h.1.0, λ k. sym first k ∷ h.1.1 k)))
       (compared (xs ++ a.0) xs ys (a.0, refl) (b.0, others))
 
-  Both : List A → List A → List A → List A → Type 0
-  Both all xs ys z = Begins z xs × Begins z ys × Begins all z
-
   pub longer_begins : (all xs ys : List A) → Begins all xs → Begins all ys → Begins (longer xs ys) xs × Begins (longer xs ys) ys × Begins all (longer xs ys)
   longer_begins all xs ys a b = ⊎_elim
       (λ (h : (is_longer xs ys ≡ true) × Begins xs ys). subst (λ (c : Bool). Begins (if c then xs else ys) xs × Begins (if c then xs else ys) ys × Begins all (if c then xs else ys)) (sym h.0) (begins_all xs, h.1, a))
@@ -66,6 +63,11 @@ module _ {A : Type 0} where
   longest_at (a ∷ xs) [] m = longer_none (log_at (a ∷ xs) m)
   longest_at (a ∷ xs) (b ∷ bs) zero = refl
   longest_at (a ∷ xs) (b ∷ bs) (suc m) = longest_at xs bs m
+
+  -- where both are beginnings at each place, the longest begin with both
+  pub longest_begins : (all : ℕ → List A) (as' bs : List (List A)) → ((m : ℕ) → Begins (all m) (log_at as' m) × Begins (all m) (log_at bs m))
+      → (m : ℕ) → Begins (log_at (longest as' bs) m) (log_at as' m) × Begins (log_at (longest as' bs) m) (log_at bs m) × Begins (all m) (log_at (longest as' bs) m)
+  longest_begins all as' bs both m = subst (λ (z : List A). Begins z (log_at as' m) × Begins z (log_at bs m) × Begins (all m) z) (sym (longest_at as' bs m)) (longer_begins (all m) (log_at as' m) (log_at bs m) (both m).0 (both m).1)
 
   pub put_here : (logs : List (List A)) (m : ℕ) (log : List A) → log_at (put_at logs m log) m ≡ log
   put_here [] zero log = refl
@@ -105,13 +107,19 @@ pub times_elsewhere : (m j k a n : ℕ) → j ≢ m → times j k (run m a n) �
 times_elsewhere m j k a zero o = refl
 times_elsewhere m j k a (suc n) o = let t = times_elsewhere m j k (suc a) n o in let z : hits j k (m, a) ≡ 0 = ap (λ (c : Bool). if c && (a == k) then 1 else 0) (ne_eqb m j (λ e. o (sym e))) in omega arith
 
+-- a number outside the run does not stand in it
+pub times_out : (m k a n : ℕ) → (k < a) ⊎ (a + n ≤ k) → times m k (run m a n) ≡ 0
+times_out m k a zero outside = refl
+times_out m k a (suc n) outside =
+    let apart : a ≢ k = λ e. ⊎_elim (λ (low : k < a). absurd (omega arith)) (λ (high : a + suc n ≤ k). absurd (omega arith)) outside in
+    let z : hits m k (m, a) ≡ 0 = ap₂ (λ (c d : Bool). if c && d then 1 else 0) (eq-eqb m m refl) (ne_eqb a k apart) in
+    let further : (k < suc a) ⊎ (suc a + n ≤ k) = ⊎_elim (λ (low : k < a). inl (omega arith)) (λ (high : a + suc n ≤ k). inr (omega arith)) outside in
+    let t = times_out m k (suc a) n further in omega arith
+
 -- each number of the run stands in it once
-pub times_in : (m k a n : ℕ) → a ≤ k → k + 1 ≤ a + n → times m k (run m a n) ≡ 1
+pub times_in : (m k a n : ℕ) → a ≤ k → k < a + n → times m k (run m a n) ≡ 1
 times_in m k a zero low high = absurd (omega arith)
 times_in m k a (suc n) low high = dite (ℕ_discrete a k)
-    (λ e. let z : hits m k (m, a) ≡ 1 = ap₂ (λ (c d : Bool). if c && d then 1 else 0) (eq-eqb m m refl) (eq-eqb a k e) in let t = times_below m k (suc a) n (omega arith) in omega arith)
+    (λ e. let z : hits m k (m, a) ≡ 1 = ap₂ (λ (c d : Bool). if c && d then 1 else 0) (eq-eqb m m refl) (eq-eqb a k e) in
+    let below : (k < suc a) ⊎ (suc a + n ≤ k) = inl (omega arith) in let t = times_out m k (suc a) n below in omega arith)
     (λ o. let z : hits m k (m, a) ≡ 0 = ap₂ (λ (c d : Bool). if c && d then 1 else 0) (eq-eqb m m refl) (ne_eqb a k o) in let t = times_in m k (suc a) n (omega arith) (omega arith) in omega arith)
-  where
-    times_below : (m k a n : ℕ) → k + 1 ≤ a → times m k (run m a n) ≡ 0
-    times_below m k a zero low = refl
-    times_below m k a (suc n) low = let z : hits m k (m, a) ≡ 0 = ap₂ (λ (c d : Bool). if c && d then 1 else 0) (eq-eqb m m refl) (ne_eqb a k (λ e. omega arith)) in let t = times_below m k (suc a) n (omega arith) in omega arith

@@ -20,7 +20,7 @@ module _ {T X E : Type 0} where
   abbrev pub released : (X → List E) → Step (Option X) → Me (Option X) (View T E) → Me (Option X) (View T E) → Type 0
   released log step before after = (y : X) → before.1 ≡ (step.word, Some y) ∷ [] → after ≡ (giving before.0 step.word (log y), [])
 
-  -- a look: it knows at each place the longer of the two, which begins with both
-  abbrev pub looked : Me (Option X) (View T E) → Me (Option X) (View T E) → Type 0
-  looked before after = (after ≡ (merged before.0, before.1))
-      × ((m : ℕ) → Begins (log_at after.0.known m) (log_at before.0.known m) × Begins (log_at after.0.known m) (log_at before.0.came m))
+-- a look: it knows at each place the longer of the two, which begins with both
+abbrev pub looked : {S T E : Type 0} → Me S (View T E) → Me S (View T E) → Type 0
+looked before after = (after ≡ (merged before.0, before.1))
+    × ((m : ℕ) → Begins (log_at after.0.known m) (log_at before.0.known m) × Begins (log_at after.0.known m) (log_at before.0.came m))

@@ -8,7 +8,7 @@ use std::sync::Wait;
 use std::test::Fail;
 use std::thread::join;
 
-/// Any numbers, with no log.
+/// Any numbers, each with an empty log.
 struct Numbers;
 
 impl Kept for Numbers {
@@ -62,5 +62,28 @@ fn two_threads_count_together(rt: HostRuntime) -> Result<(), Fail> {
         panic!(rt; "memory")
     };
     assert!(rt; values.as_slice() == [2000u64].as_slice());
+    Ok(())
+}
+
+#[test]
+fn values_stand_in_order(rt: HostRuntime) -> Result<(), Fail> {
+    let alloc = rt.alloc();
+    let mut values = Vec::new(alloc);
+    values.push(5u64)?;
+    values.push(7u64)?;
+    let (row, mut root) = Row::<Numbers>::new(alloc, &0u8, values)?;
+    assert!(rt; row.places() == 2);
+    let mut pass = row.split(&mut root);
+    let mut held = row.take(&rt, &mut pass, 1);
+    let value = held.value();
+    let found = *value;
+    *value = 8;
+    row.give(&mut pass, held);
+    assert!(rt; found == 7);
+    row.join(&mut root, pass);
+    let Ok(values) = row.close(alloc, root) else {
+        panic!(rt; "memory")
+    };
+    assert!(rt; values.as_slice() == [5u64, 8u64].as_slice());
     Ok(())
 }
