@@ -1,0 +1,16 @@
+pub mod Beginnings
+pub mod Examples
+pub mod Facts
+pub mod Filled
+pub mod Holdings
+pub mod Lending
+pub mod LogLaws
+pub mod Logs
+pub mod Numbers
+pub mod Orderly
+pub mod Passes
+pub mod Places
+pub mod RuleLaws
+pub mod Steps
+pub mod Totals
+pub mod Views
