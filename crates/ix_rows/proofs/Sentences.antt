@@ -1,5 +1,5 @@
 -- What the rule of a row says, sentence by sentence.
-use Rattle.std.proofs.Common.{◌≡◌, ◌≢◌, ◌⊎◌, ℕ, ◌-◌, ◌+◌, ◌<◌, ◌≤◌, List, length, Some, ap, ◌∙◌, ⊎_elim, inl, inr, arith}
+use Rattle.std.proofs.Common.{◌⊎◌, ℕ, ◌-◌, ◌+◌, ◌<◌, ◌≤◌, List, length, Some, ap, ◌∙◌, ⊎_elim, inl, inr, arith}
 use Rattle.ix_rows.specs.Logs.{log_at}
 use Rattle.ix_rows.specs.RuleLaws.{TakenHaveHolders, FreeAreKept, LiveNameTopic, KnownBegin, OwnOnce}
 use Rattle.ix_rows.proofs.Logs.{times_in, times_out}

@@ -1,6 +1,6 @@
 -- A small row for the worked examples: its values are lists of numbers, each its own log. This project's own.
-use Rattle.std.specs.Prelude.{ℕ, ◌≤◌, List, [], ◌∷◌, length, Option, Some, None}
-use mathlib.Core.Option.{none, some}
+use Rattle.std.specs.Prelude.{ℕ, ◌≤◌, List, [], ◌∷◌, length, Option, Some}
+use mathlib.Core.Option.{none}
 use Rattle.atomic_table.specs.Table.{State, Me, Step, step, opening}
 use Rattle.ix_rows.specs.declared.view.View.{View}
 use Rattle.ix_rows.specs.Views.{root_view, right_of, holding}

@@ -1,4 +1,4 @@
-use Rattle.std.proofs.Common.{◌≡◌, ℕ, List, [], ◌∷◌, ◌++◌, length, get_or, refl, ap, arith}
+use Rattle.std.proofs.Common.{ℕ, List, [], ◌∷◌, get_or, refl, ap, arith}
 use Rattle.ix_rows.proofs.Logs.{begins_all, begins_none, begins_length}
 use Rattle.ix_rows.proofs.laws.lists_begin.Goals as goal
 

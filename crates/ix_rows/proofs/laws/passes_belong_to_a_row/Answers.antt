@@ -1,4 +1,4 @@
-use Rattle.std.proofs.Common.{◌≡◌, ℕ, List, Option, Some, refl, sym, ap, ◌∙◌, inr}
+use Rattle.std.proofs.Common.{ℕ, List, Option, sym, ap, ◌∙◌, inr}
 use Rattle.atomic_table.specs.Table.{Me}
 use Rattle.ix_rows.specs.declared.view.View.{View}
 use Rattle.ix_rows.proofs.Counts.{some_none}

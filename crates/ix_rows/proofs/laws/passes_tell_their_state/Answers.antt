@@ -1,4 +1,4 @@
-use Rattle.std.proofs.Common.{◌≡◌, ℕ, Bool, true, false, List, [], ◌∷◌, length, Option, Some, None, refl, sym, ap, ◌∙◌, inl, inr, arith}
+use Rattle.std.proofs.Common.{◌≡◌, ℕ, true, false, List, [], ◌∷◌, Option, None, sym, ap, ◌∙◌, inl, inr, arith}
 use Rattle.atomic_table.specs.Table.{Me}
 use Rattle.ix_rows.specs.declared.view.View.{View}
 use Rattle.ix_rows.proofs.Counts.{some_is, some_none}

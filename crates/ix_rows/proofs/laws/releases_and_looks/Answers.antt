@@ -1,4 +1,4 @@
-use Rattle.std.proofs.Common.{◌≡◌, ℕ, List, [], ◌∷◌, length, Option, Some, None, refl, sym, ap, arith}
+use Rattle.std.proofs.Common.{ℕ, List, [], ◌∷◌, length, Option, refl, sym, ap, arith}
 use Rattle.ix_rows.specs.declared.view.View.{View}
 use Rattle.ix_rows.specs.Examples.{busy, two_logs}
 use Rattle.ix_rows.specs.Logs.{log_at}

@@ -1,8 +1,7 @@
-use Rattle.std.proofs.Common.{◌≡◌, ◌≤◌, ◌<◌, ◌⊎◌, ℕ, zero, suc, ◌+◌, ◌-◌, List, [], ◌∷◌, length, Option, Some, None, refl, sym, ap, ◌∙◌, subst, inl, arith}
+use Rattle.std.proofs.Common.{◌≡◌, ◌≤◌, ◌<◌, ◌⊎◌, ℕ, zero, suc, ◌+◌, ◌-◌, List, [], ◌∷◌, length, Some, None, refl, sym, ap, ◌∙◌, inl, arith}
 use mathlib.Core.Option.{some, some-ne-none, some-injective}
 use lib.ListN.{get_elem?}
 use Rattle.ix_rows.specs.declared.view.View.{View}
-use Rattle.ix_rows.specs.Beginnings.{Begins}
 use Rattle.ix_rows.specs.Examples.{is_short, its_log, two_logs, small_root}
 use Rattle.ix_rows.proofs.Counts.{some_is, some_none, only_one}
 use Rattle.ix_rows.proofs.Keeps.{opens}

@@ -1,5 +1,5 @@
-use Rattle.std.proofs.Common.{◌≡◌, ℕ, suc, zero, List, [], ◌∷◌, length, Option, Some, None, get_or, refl, sym, ap, arith}
-use mathlib.Core.Option.{some, some-injective}
+use Rattle.std.proofs.Common.{◌≡◌, ℕ, List, [], ◌∷◌, length, Option, Some, None, get_or, refl, sym, ap, arith}
+use mathlib.Core.Option.{some-injective}
 use lib.ListN.{get_elem?}
 use Rattle.ix_rows.proofs.Counts.{some_is, some_none}
 use Rattle.ix_rows.proofs.laws.slots_have_values.Goals as goal

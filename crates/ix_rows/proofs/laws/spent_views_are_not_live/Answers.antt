@@ -1,5 +1,4 @@
-use Rattle.std.proofs.Common.{◌≡◌, ℕ, Bool, true, false, Some, refl, inl, inr, ⊎_elim, arith}
-use Rattle.ix_rows.specs.Examples.{small_root}
+use Rattle.std.proofs.Common.{◌≡◌, true, false, refl, inl, inr, ⊎_elim, arith}
 use Rattle.ix_rows.proofs.Counts.{some_none}
 use Rattle.ix_rows.proofs.laws.spent_views_are_not_live.Goals as goal
 

@@ -1,5 +1,4 @@
-use Rattle.std.proofs.Common.{◌≡◌, ℕ, List, [], ◌∷◌, length, Option, Some, None, refl, sym, ap, arith}
-use Rattle.atomic_table.specs.Table.{Me}
+use Rattle.std.proofs.Common.{ℕ, List, [], ◌∷◌, length, Option, refl, sym, ap, arith}
 use Rattle.ix_rows.specs.declared.view.View.{View}
 use Rattle.ix_rows.proofs.Counts.{some_is, some_none}
 use Rattle.ix_rows.proofs.Logs.{begins_all, begins_length}

@@ -1,4 +1,3 @@
-use Rattle.std.proofs.Common.{◌≡◌}
 use Rattle.ix_rows.specs.Passes.{HoldsNone}
 use Rattle.ix_rows.specs.Places.{IsPassOf}
 use Rattle.ix_rows.proofs.tests.add.Given as goal

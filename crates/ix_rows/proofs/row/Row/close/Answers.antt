@@ -1,4 +1,4 @@
-use Rattle.std.proofs.Common.{rules, ◌≡◌, ◌-◌, ap, sym, ◌∙◌, subst, length, arith, Some}
+use Rattle.std.proofs.Common.{◌≡◌, ◌-◌, ap, sym, ◌∙◌, subst, length, arith, Some}
 use Rattle.std.specs.Prelude.{slice_index}
 use Rattle.ix_rows.specs.Beginnings.{Begins}
 use Rattle.ix_rows.specs.Logs.{log_at}

@@ -1,4 +1,4 @@
-use Rattle.std.proofs.Common.{rules, sym, ap, ◌∙◌, ◌∷◌, [], Some, arith}
+use Rattle.std.proofs.Common.{rules, ap, ◌∙◌, ◌∷◌, Some, arith}
 use Rattle.atomic_table.specs.Table.{rest}
 use Rattle.ix_rows.proofs.Keeps.{releases_as}
 use Rattle.ix_rows.proofs.row.Row.give.Goals as goal
