@@ -1,5 +1,5 @@
 -- The banks and the step that the worked examples speak of.
-use Rattle.std.proofs.Common.{◌≡◌, ◌+◌, ℕ, List, [], ◌∷◌, length, refl, rules}
+use Rattle.std.proofs.Common.{◌≡◌, ◌+◌, List, [], length, refl, rules}
 use Rattle.ix_model.specs.Expansion.Parts.{Parts}
 use Rattle.ix_model.specs.Closure.Closed as closed
 use Rattle.ix_examples.specs.SmallPlans.{cycle}

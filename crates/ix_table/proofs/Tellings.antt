@@ -1,22 +1,21 @@
 -- What the answer of a table's step tells.
-use Rattle.std.proofs.Common.{◌≡◌, ◌-◌, ◌+◌, ℕ, zero, suc, Bool, true, false, List, [], ◌∷◌, ◌++◌, length, Contains, Some, slice_get, append-nil, refl, sym, ap, ◌∙◌, subst, arith}
+use Rattle.std.proofs.Common.{◌≡◌, ◌-◌, ◌+◌, ℕ, zero, suc, List, [], ◌∷◌, ◌++◌, length, Contains, Some, slice_get, append-nil, refl, sym, ap, ◌∙◌, subst, arith}
 use Rattle.std.proofs.lemmas.List.Elements.{Contains-append_left, Contains-append_right, Contains-push}
 use Rattle.ix_model.specs.Expansion.Parts.{Parts}
-use Rattle.ix_cluster.specs.declared.cluster.Edge.{Edge as Arc}
 use Rattle.ix_cluster.specs.declared.fact.Fact.{Fact}
 use Rattle.ix_cluster.specs.declared.fact.Fact.TheVariants.{Edge, End, Part, Desc, Claim}
-use Rattle.ix_cluster.specs.BankSteps.{Call, AddEdge, AddEnd, Arrive, MakeClaim, Answer, BankStep, edge_calls, edge_joins, edge_again, end_comes, end_again, sub_fresh, sub_known, claim_mine, claim_taken, claim_unknown}
+use Rattle.ix_cluster.specs.BankSteps.{Call, MakeClaim, Answer, BankStep, edge_calls, edge_joins, edge_again, end_comes, end_again, sub_fresh, sub_known, claim_mine, claim_taken, claim_unknown}
 use Rattle.ix_cluster.specs.ClosedFacts.{IsInClosed}
-use Rattle.ix_cluster.specs.Facts.{has, put}
+use Rattle.ix_cluster.specs.Facts.{put}
 use Rattle.ix_cluster.proofs.Members.{has-Contains, Contains-has, first_has, none_has, put-there}
 use Rattle.ix_cluster.proofs.StepCases.{step_appends}
 use Rattle.ix_rows.specs.Beginnings.{Begins}
 use Rattle.ix_rows.specs.Logs.{log_at}
 use Rattle.ix_rows.specs.Numbers.{run}
 use Rattle.ix_rows.proofs.Logs.{put_here}
-use Rattle.ix_table.specs.Answers.{Knows, Tells}
+use Rattle.ix_table.specs.Answers.{Tells}
 use Rattle.ix_table.specs.Calls.{place_for}
-use Rattle.ix_table.specs.Sights.{Sight, seen_after}
+use Rattle.ix_table.specs.Sights.{Sight}
 use Rattle.ix_table.specs.TableSteps.{IsStep}
 use Rattle.ix_table.proofs.Listed.{edge_listed, end_listed}
 

@@ -1,5 +1,5 @@
 -- What a table's step is made of: a take, a bank's step and a give.
-use Rattle.std.proofs.Common.{◌≡◌, ℕ, ◌++◌, ◌-◌, List, length, Option, Some, IfOk, OnErr, append-nil, refl, sym, ap, ◌∙◌, subst, arith}
+use Rattle.std.proofs.Common.{◌≡◌, ℕ, ◌++◌, ◌-◌, length, Option, Some, IfOk, OnErr, append-nil, sym, ap, ◌∙◌, subst, arith}
 use Rattle.std.specs.declared.result.Result.{Result}
 use Rattle.std.specs.declared.result.Result.TheVariants.{Ok, Err}
 use Rattle.ix_model.specs.declared.rules.Sym.TheVariants as sym_of
@@ -22,7 +22,7 @@ use Rattle.ix_rows.specs.Views.{holding, giving}
 use Rattle.ix_rows.proofs.Logs.{begins_all}
 use Rattle.ix_table.specs.Answers.{Tells}
 use Rattle.ix_table.specs.Calls.{place_for}
-use Rattle.ix_table.specs.Sights.{Sight, sight_of}
+use Rattle.ix_table.specs.Sights.{sight_of}
 use Rattle.ix_table.specs.TableSteps.{IsStep, IsLook}
 use Rattle.ix_table.proofs.Tellings.{step_tells}
 

@@ -1,5 +1,5 @@
 -- What the answer of a table's step tells of the pass's sight before and after it. It is this project's own.
-use Rattle.std.specs.Prelude.{◌≡◌, ℕ, List, Contains, Some, slice_get}
+use Rattle.std.specs.Prelude.{◌≡◌, ℕ, Contains, Some, slice_get}
 use Rattle.ix_model.specs.Expansion.Parts.{Parts}
 use Rattle.ix_cluster.specs.BankSteps.{Call, AddEdge, AddEnd, MakeClaim, Answer, Opens, Meets, Belongs}
 use Rattle.ix_cluster.specs.declared.answers.Claimed.{Claimed}

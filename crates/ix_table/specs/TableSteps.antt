@@ -1,5 +1,5 @@
 -- A step of a table: a bank's step at the home of the call, as the pass sees it. It is this project's own.
-use Rattle.std.specs.Prelude.{◌≡◌, ℕ}
+use Rattle.std.specs.Prelude.{◌≡◌}
 use Rattle.ix_model.specs.Expansion.Parts.{Parts}
 use Rattle.ix_cluster.specs.BankSteps.{Call, Answer, BankStep}
 use Rattle.ix_cluster.specs.Seen.{Bank}

@@ -7,6 +7,3 @@ mod table;
 
 pub use banked::Banked;
 pub use table::{Pass, Table, Unshut};
-
-#[cfg(test)]
-mod tests;

@@ -1,4 +1,4 @@
-use Rattle.std.proofs.Common.{◌≡◌, [], ◌∷◌, refl, subst, codes, arith}
+use Rattle.std.proofs.Common.{[], refl, subst, codes, arith}
 use Rattle.ix_cluster.specs.declared.fact.Fact.TheVariants.{Edge, End, Part, Claim}
 use Rattle.ix_model.specs.Closure.Closed as closed
 use Rattle.ix_examples.specs.SmallPlans.{cycle}

@@ -1,4 +1,4 @@
-use Rattle.std.proofs.Common.{◌≡◌, ◌-◌, ℕ, [], ◌∷◌, length, Some, slice_get, ap, refl, sym, subst, arith}
+use Rattle.std.proofs.Common.{◌≡◌, ◌-◌, ℕ, [], length, Some, slice_get, ap, refl, sym, subst, arith}
 use Rattle.ix_cluster.specs.declared.fact.Fact.TheVariants.{Desc, Claim}
 use Rattle.ix_cluster.specs.BankSteps.{claim_mine, claim_unknown}
 use Rattle.ix_cluster.proofs.Members.{Contains-has, one_has, none_has}

@@ -1,4 +1,4 @@
-use Rattle.std.proofs.Common.{◌≡◌, [], ◌∷◌, arith}
+use Rattle.std.proofs.Common.{arith}
 use Rattle.ix_rows.proofs.Logs.{begins_length}
 use Rattle.ix_table.specs.Examples.{first_log, claimed_log, first_bank}
 use Rattle.ix_table.proofs.Changes.{own_once, beginning_closes}

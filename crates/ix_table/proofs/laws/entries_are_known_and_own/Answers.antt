@@ -1,4 +1,4 @@
-use Rattle.std.proofs.Common.{◌≡◌, [], ◌∷◌, refl}
+use Rattle.std.proofs.Common.{[], refl}
 use Rattle.ix_cluster.specs.declared.fact.Fact.TheVariants.{Desc, Claim}
 use Rattle.ix_cluster.proofs.Members.{Contains-has, has-Contains, first_has, none_has}
 use Rattle.ix_table.specs.Examples.{first_log}

@@ -1,5 +1,5 @@
-use Rattle.std.proofs.Common.{◌≡◌, [], ◌∷◌, ap, refl, sym, length, arith}
-use Rattle.ix_cluster.specs.declared.fact.Fact.TheVariants.{Called, Desc}
+use Rattle.std.proofs.Common.{[], ◌∷◌, ap, refl, length, arith}
+use Rattle.ix_cluster.specs.declared.fact.Fact.TheVariants.{Desc}
 use Rattle.ix_rows.specs.Logs.{log_at}
 use Rattle.ix_rows.proofs.Logs.{begins_length}
 use Rattle.ix_table.specs.Examples.{first_log, first_bank}

@@ -1,4 +1,4 @@
-use Rattle.std.proofs.Common.{◌≡◌, [], ◌∷◌, ap, sym, ◌∙◌, arith}
+use Rattle.std.proofs.Common.{ap, arith}
 use Rattle.ix_table.specs.Sights.{Sight}
 use Rattle.ix_table.proofs.laws.passes_fit_and_begin.Goals as goal
 
