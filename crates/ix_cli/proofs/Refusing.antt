@@ -15,7 +15,7 @@ use Rattle.ix_cli.specs.declared.answer.Answer.TheVariants as answer
 use Rattle.ix_cli.specs.Answered.{IsAnswered, IsMessage}
 use Rattle.ix_cli.specs.Lines as lines
 use Rattle.ix_cli.specs.Named.{Names}
-use Rattle.ix_cli.specs.Refused.{IsRefusedFor, IsRefused}
+use Rattle.ix_cli.specs.Refused.{IsRefused}
 use Rattle.ix_cli.specs.Says.{Says, Refuses}
 use Rattle.ix_cli.specs.Table.{IsReply}
 use Rattle.ix_cli.specs.Unread.{IsNext}
