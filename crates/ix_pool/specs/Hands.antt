@@ -1,5 +1,5 @@
 -- The hands that workers begin with: one for each, with a deck for each.
-use Rattle.std.specs.Prelude.{◌≡◌, ℕ, ◌+◌, ◌-◌, ◌<◌, Bool, true, false, All, List, [], ◌∷◌, ◌++◌, map, length, replicate, slice_index_or}
+use Rattle.std.specs.Prelude.{◌≡◌, ℕ, ◌-◌, ◌<◌, Bool, true, false, List, ◌∷◌, ◌++◌, map, length, replicate, slice_index_or}
 use Rattle.ix_pool.specs.declared.deque.Deque.{Deque}
 use Rattle.ix_pool.specs.declared.deque.End.{End}
 use Rattle.ix_pool.specs.declared.deque.End.TheVariants.{Own, Other}

@@ -1,4 +1,4 @@
-use Rattle.std.proofs.Common.{rules, ◌≡◌, ◌∙◌, ap, map, length, false}
+use Rattle.std.proofs.Common.{rules, ◌∙◌, ap, map, length, false}
 use Rattle.ix_pool.specs.Hands.{is_own, misses_of}
 use Rattle.ix_pool.proofs.Rows.{one_between, all_equal}
 use Rattle.ix_pool.proofs.workers.hand.Goals as goal

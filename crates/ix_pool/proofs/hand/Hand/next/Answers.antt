@@ -1,4 +1,4 @@
-use Rattle.std.proofs.Common.{rules, ◌≡◌, length, arith}
+use Rattle.std.proofs.Common.{◌≡◌, length, arith}
 use Rattle.ix_pool.proofs.Decks.{own_then_others}
 use Rattle.ix_pool.proofs.hand.Hand.next.Goals as goal
 
