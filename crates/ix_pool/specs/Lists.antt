@@ -8,8 +8,8 @@ abbrev pub hints_of : ListDeck → List Hint
 hints_of d = d.hints.items
 
 -- how many takes gave no hint
-abbrev pub misses_of : ListDeck → ℕ
-misses_of d = d.misses
+abbrev pub misses_of_list : ListDeck → ℕ
+misses_of_list d = d.misses
 
 -- the hint at the front, if there is one
 abbrev pub first_of : List Hint → Option Hint

@@ -1,13 +1,13 @@
-//! Worked examples of how misses are counted and in which order decks are asked, each proved: what holds, and beside it
-//! what does not.
-ghost use Rattle.std.specs.Prelude.{◌≡◌, ◌-◌, ◌^◌, ℕ, Bool, true, false, [], ◌∷◌, Option, Some, None};
+//! Worked examples of how misses are counted, in which order decks are asked, and what new hands and lists hold, each
+//! proved: what holds, and beside it what does not.
+ghost use Rattle.std.specs.Prelude.{◌≡◌, ◌-◌, ◌^◌, ℕ, true, false, [], ◌∷◌, Some, None};
 ghost use Rattle.ix_pool.specs.Asking.{AskedBefore, Missed, SameCount, Untouched, GaveAt, AsksInOrder, AsksOthers};
 ghost use Rattle.ix_pool.specs.Counts.{count_after};
 ghost use Rattle.ix_pool.specs.Hands.{is_own, misses_of, only, IsNewHand, AreNewHands};
 ghost use Rattle.ix_pool.specs.declared.deque.Deque.{Deque};
 ghost use Rattle.ix_pool.specs.declared.deque.End.TheVariants.{Own, Other};
 ghost use Rattle.ix_pool.specs.declared.list_deck.ListDeck.{ListDeck};
-ghost use Rattle.ix_pool.specs.Lists.{hints_of, first_of, rest_of};
+ghost use Rattle.ix_pool.specs.Lists.{hints_of, misses_of_list, first_of, rest_of};
 
 use crate::Hint;
 
@@ -134,8 +134,9 @@ pub fn all_hands_are_new_or_not()
     ensures same_number { (o s : Deque) → ¬ (AreNewHands {H = ℕ} (λ h. h) (λ h. o ∷ s ∷ []) 2 (0 ∷ 0 ∷ [])) }
 {}
 
-/// The hints of a list in memory, the front first.
+/// The hints of a list in memory, the front first, and its misses.
 pub fn lists_have_hints(a: Hint, b: Hint)
     ensures both { (d : ListDeck) → d.hints.items ≡ a ∷ b ∷ [] → hints_of d ≡ a ∷ b ∷ [] }
     ensures none { (d : ListDeck) → d.hints.items ≡ [] → hints_of d ≡ [] }
+    ensures misses { (d : ListDeck) → d.misses ≡ 3 → misses_of_list d ≡ 3 }
 {}

@@ -11,12 +11,12 @@ pub struct ListDeck {
 
 impl ListDeck {
     ghost use Rattle.std.specs.Prelude.{◌≡◌, []};
-    ghost use Rattle.ix_pool.specs.Lists.{hints_of, misses_of};
+    ghost use Rattle.ix_pool.specs.Lists.{hints_of, misses_of_list};
 
     /// An empty list, with no misses. It takes no memory.
     pub fn new(alloc: Global) -> ListDeck
         ensures hints { hints_of result ≡ [] }
-        ensures misses { misses_of result ≡ 0 }
+        ensures misses { misses_of_list result ≡ 0 }
     {
         ListDeck {
             hints: VecDeque::new(alloc),
@@ -28,7 +28,7 @@ impl ListDeck {
 impl Deck for ListDeck {
     ghost use Rattle.std.specs.Prelude.{◌≡◌, ◌⊎◌, [], ◌∷◌, ◌++◌};
     ghost use Rattle.ix_pool.specs.Counts.{count_after};
-    ghost use Rattle.ix_pool.specs.Lists.{hints_of, misses_of, first_of, rest_of};
+    ghost use Rattle.ix_pool.specs.Lists.{hints_of, misses_of_list, first_of, rest_of};
 
     ghost count = { λ d. d.misses };
 
@@ -38,7 +38,7 @@ impl Deck for ListDeck {
 
     /// The hint at the front. There is none exactly where the list is empty.
     fn take(&mut self) -> Option<Hint>
-        ensures count { misses_of self.new ≡ count_after result (misses_of self.old) }
+        ensures count { misses_of_list self.new ≡ count_after result (misses_of_list self.old) }
         ensures first { result ≡ first_of (hints_of self.old) }
         ensures rest { hints_of self.new ≡ rest_of (hints_of self.old) }
     {
@@ -51,7 +51,7 @@ impl Deck for ListDeck {
 
     /// Hands a hint in at the back, or drops it where there is no memory for it.
     fn put(&mut self, hint: Hint)
-        ensures count { misses_of self.new ≡ misses_of self.old }
+        ensures count { misses_of_list self.new ≡ misses_of_list self.old }
         ensures hints { (hints_of self.new ≡ hints_of self.old ++ hint ∷ []) ⊎ (hints_of self.new ≡ hints_of self.old) }
     {
         let _ = self.hints.push_back(hint);

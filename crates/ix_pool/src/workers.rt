@@ -1,4 +1,4 @@
-ghost use Rattle.std.specs.Prelude.{◌≡◌, ◌≤◌, ◌<◌, ◌++◌, List, Bool, true, false, ℕ, map, replicate, length, vec_len, IfOk, OnOk};
+ghost use Rattle.std.specs.Prelude.{◌≡◌, ◌≤◌, ◌<◌, ◌++◌, false, map, replicate, length, vec_len, IfOk, OnOk};
 ghost use Rattle.ix_pool.specs.Hands.{is_own, misses_of, IsNewHand, AreNewHands};
 
 use crate::{Deque, Hand, Hint};
