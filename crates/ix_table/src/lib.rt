@@ -7,3 +7,6 @@ mod table;
 
 pub use banked::Banked;
 pub use table::{Pass, Table, Unshut};
+
+#[cfg(test)]
+mod tests;
