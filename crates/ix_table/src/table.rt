@@ -103,6 +103,7 @@ impl<'p> Table<'p> {
 
 // The four steps: each takes the place of the home bank, makes that bank's step and gives the place back.
 impl<'p> Table<'p> {
+    ghost use Rattle.ix_rows.specs.Passes.{IsRoot, IsWhole};
     ghost use Rattle.ix_table.specs.Tables.{PassFits};
 
     /// Records the return edge of the cluster, by the pass, and answers what the home bank's `add_edge` answers: whether
@@ -123,6 +124,10 @@ impl<'p> Table<'p> {
         requires pass { PassFits self.now pass.old }
         requires closed { IsInClosed self.now.plan.now (fact_for (AddEdge rule at slot left)) }
         ensures pass { PassFits self.now pass.new }
+        // A root stays one, and whole where it was, and how long the logs were at the beginning is told as before.
+        ensures root { IsRoot pass.old → IsRoot pass.new }
+        ensures whole { IsWhole pass.old → IsWhole pass.new }
+        ensures begun { pass.new.me.0.begun ≡ pass.old.me.0.begun }
         ensures step { IfOk result (λ opened. IsStep self.now.plan.now (sight_of pass.old) (AddEdge rule at slot left) (Opens opened.first opened.ends.items) (sight_of pass.new)) }
         // What follows of the answer: the fact is known, and each end that is answered is in the closure.
         ensures tells { IfOk result (λ opened. Tells self.now.plan.now (sight_of pass.old) (AddEdge rule at slot left) (Opens opened.first opened.ends.items) (sight_of pass.new)) }
@@ -154,6 +159,10 @@ impl<'p> Table<'p> {
         requires pass { PassFits self.now pass.old }
         requires closed { IsInClosed self.now.plan.now (fact_for (AddEnd rule at end)) }
         ensures pass { PassFits self.now pass.new }
+        // A root stays one, and whole where it was, and how long the logs were at the beginning is told as before.
+        ensures root { IsRoot pass.old → IsRoot pass.new }
+        ensures whole { IsWhole pass.old → IsWhole pass.new }
+        ensures begun { pass.new.me.0.begun ≡ pass.old.me.0.begun }
         ensures step { IfOk result (λ edges. IsStep self.now.plan.now (sight_of pass.old) (AddEnd rule at end) (Meets edges.items) (sight_of pass.new)) }
         // What follows of the answer: the fact is known, and each edge that is answered is in the closure.
         ensures tells { IfOk result (λ edges. Tells self.now.plan.now (sight_of pass.old) (AddEnd rule at end) (Meets edges.items) (sight_of pass.new)) }
@@ -176,6 +185,10 @@ impl<'p> Table<'p> {
         requires pass { PassFits self.now pass.old }
         requires closed { IsInClosed self.now.plan.now (fact_for (Arrive sub)) }
         ensures pass { PassFits self.now pass.new }
+        // A root stays one, and whole where it was, and how long the logs were at the beginning is told as before.
+        ensures root { IsRoot pass.old → IsRoot pass.new }
+        ensures whole { IsWhole pass.old → IsWhole pass.new }
+        ensures begun { pass.new.me.0.begun ≡ pass.old.me.0.begun }
         ensures step { IfOk result (λ arrived. IsStep self.now.plan.now (sight_of pass.old) (Arrive sub) (Arrives arrived) (sight_of pass.new)) }
         // What follows of the answer: the fact is known.
         ensures tells { IfOk result (λ arrived. Tells self.now.plan.now (sight_of pass.old) (Arrive sub) (Arrives arrived) (sight_of pass.new)) }
@@ -198,6 +211,10 @@ impl<'p> Table<'p> {
         requires pass { PassFits self.now pass.old }
         requires slot { slot < length self.now.plan.now.slots }
         ensures pass { PassFits self.now pass.new }
+        // A root stays one, and whole where it was, and how long the logs were at the beginning is told as before.
+        ensures root { IsRoot pass.old → IsRoot pass.new }
+        ensures whole { IsWhole pass.old → IsWhole pass.new }
+        ensures begun { pass.new.me.0.begun ≡ pass.old.me.0.begun }
         ensures step { IsStep self.now.plan.now (sight_of pass.old) (MakeClaim slot left pos) (Belongs result) (sight_of pass.new) }
         // What follows of the answer: whether the claim is known and own, and that the descriptor is in the closure or was
         // not known.
