@@ -19,7 +19,7 @@ elem_at [] m x e = absurd (cc)
 elem_at (y ∷ ys) zero x e = let is : y ≡ x = cc in ap some is
 elem_at (y ∷ ys) (suc m) x e = elem_at ys m x e
 
-slice_at : {X : Type 0} → (xs : List X) (m : ℕ) (x : X) → get_elem? xs m ≡ some x → slice_get xs m ≡ Some x
+pub slice_at : {X : Type 0} → (xs : List X) (m : ℕ) (x : X) → get_elem? xs m ≡ some x → slice_get xs m ≡ Some x
 slice_at [] m x e = absurd (some-ne-none x (sym e))
 slice_at (y ∷ ys) zero x e = ap Some (some-injective y x e)
 slice_at (y ∷ ys) (suc m) x e = slice_at ys m x e

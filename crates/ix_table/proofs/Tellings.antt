@@ -20,7 +20,7 @@ use Rattle.ix_table.specs.TableSteps.{IsStep}
 use Rattle.ix_table.proofs.Listed.{edge_listed, end_listed}
 
 -- nothing was appended, so nothing more is own
-same_own : (own : List (ℕ × ℕ)) (m n : ℕ) → own ++ run m n (n - n) ≡ own
+pub same_own : (own : List (ℕ × ℕ)) (m n : ℕ) → own ++ run m n (n - n) ≡ own
 same_own own m n = let none : n - n ≡ 0 = omega arith in ap (λ (z : ℕ). own ++ run m n z) none ∙ append-nil own
 
 -- one entry was appended, and its number is own

@@ -6,10 +6,13 @@ ghost use Rattle.ix_cluster.specs.declared.answers.Arrived.TheVariants as arrive
 ghost use Rattle.ix_cluster.specs.declared.answers.Claimed.TheVariants as claimed;
 ghost use Rattle.ix_cluster.specs.declared.fact.Fact.{Fact as Entry};
 ghost use Rattle.ix_cluster.specs.declared.fact.Fact.TheVariants.{Called, Edge, End, Desc, Part, Claim};
+ghost use Rattle.ix_cluster.specs.Banks.{opening};
 ghost use Rattle.ix_cluster.specs.BankSteps.{AddEdge, AddEnd, Arrive, MakeClaim, Opens, Meets, Arrives, Belongs};
 ghost use Rattle.ix_cluster.specs.Seen.{Bank as Seen};
 ghost use Rattle.ix_cluster.specs.Steps.{empty_sub};
 ghost use Rattle.ix_rows.specs.Passes.{Pass as Passing, IsRoot, HoldsPlace};
+ghost use Rattle.ix_rows.specs.Places.{row_places};
+ghost use Rattle.ix_rows.specs.Views.{root_view, right_of, spent};
 ghost use Rattle.ix_table.specs.Answers.{Knows, Owns, ClaimTells, Tells};
 ghost use Rattle.ix_table.specs.Calls.{fact_for, place_for};
 ghost use Rattle.ix_table.specs.Examples.{first_log, claimed_log, first_bank, claimed_bank, seen};
@@ -110,7 +113,13 @@ pub fn steps_change_one_place()
 
 /// A pass of a table holds nothing. The root of a table that begins is whole, and has no entries.
 pub fn passes_fit_and_begin()
+    // The root, and a pass that was split off and is not joined.
+    ensures made { (table : Shared) (pass : Passing Seen Parts Entry) → row_places table.row ≡ 64 → pass.table_id ≡ table.row.table.shared.table_id → pass.me ≡ (root_view table.plan.now [], []) → PassFits table pass }
+    ensures split { (table : Shared) (pass : Passing Seen Parts Entry) → row_places table.row ≡ 64 → pass.table_id ≡ table.row.table.shared.table_id → pass.me ≡ (right_of (root_view table.plan.now []), []) → PassFits table pass }
+    ensures joined { (table : Shared) (pass : Passing Seen Parts Entry) → pass.me ≡ (spent, []) → ¬ (PassFits table pass) }
+    ensures other_plan { (table : Shared) (pass : Passing Seen Parts Entry) → table.plan.now ≡ cycle [] → pass.me ≡ (root_view (cycle (codes "a")) [], []) → ¬ (PassFits table pass) }
     ensures holding { (table : Shared) (pass : Passing Seen Parts Entry) → HoldsPlace pass 0 → ¬ (PassFits table pass) }
+    ensures begun { (pass : Passing Seen Parts Entry) → pass.me.0 ≡ root_view (cycle []) (logs_of (opening (cycle []) 64)) → IsBegun (cycle []) pass }
     ensures no_root { (plan : Parts) (pass : Passing Seen Parts Entry) → ¬ (IsRoot pass) → ¬ (IsBegun plan pass) }
     ensures pass_out { (plan : Parts) (pass : Passing Seen Parts Entry) → pass.me.0.out ≡ 1 → ¬ (IsBegun plan pass) }
     ensures own_entry { (plan : Parts) (pass : Passing Seen Parts Entry) → pass.me.0.own ≡ (0, 0) ∷ [] → ¬ (IsBegun plan pass) }

@@ -1,53 +1,38 @@
-use Rattle.std.proofs.Common.{◌≡◌, List, refl, sym, ap, ◌∙◌, subst}
-use Rattle.ix_cluster.specs.declared.fact.Fact.{Fact}
+use Rattle.std.proofs.Common.{refl, ap, ◌∙◌}
 use Rattle.ix_cluster.specs.BankSteps.{AddEnd, Meets}
 use Rattle.ix_cluster.specs.Homes.{home}
-use Rattle.ix_cluster.specs.Sound.{IsSoundBank}
-use Rattle.ix_rows.specs.Beginnings.{Begins}
-use Rattle.ix_table.specs.Calls.{place_for}
-use Rattle.ix_table.proofs.Turns.{taken_sound, given_sound, turn_at, ok_step, ok_tells, err_looks, grown}
+use Rattle.ix_table.proofs.Turns.{Taken, Made, taken_at, given_sound, given_grown, made}
 use Rattle.ix_table.proofs.table.Table.add_end.Goals as goal
 
+-- before the bank is given back, and after
+held : (g : _) (c : goal.After-give-arg-1 g) → Taken c.args.self.now.plan.now (AddEnd c.args.rule c.args.at c.args.end) c.args.pass.now c.take-held.new.pass c.take-held.result.place c.value.result.now c.add_end-answer.new.self
+held g c =
+    let t = c.take-held.ensures in
+    taken_at _ _ _ _ _ _ c.home-place.result _ c.take-held.result.value
+    (c.home-place.ensures ∙ ap (home c.args.rule c.args.at) (c.places.ensures.places ∙ c.requires.pass.3)) c.requires.pass.2 t.fact t.known t.pass.2 t.pass.3 c.value.ensures.value
+    (λ s. c.add_end-answer.ensures.sound _ 64 _ s c.requires.closed refl)
+
+held_then : (g : _) (c : goal.After-give g) → Taken c.args.self.now.plan.now (AddEnd c.args.rule c.args.at c.args.end) c.args.pass.now c.take-held.new.pass c.take-held.result.place c.value.result.now c.add_end-answer.new.self
+held_then g c =
+    let t = c.take-held.ensures in
+    taken_at _ _ _ _ _ _ c.home-place.result _ c.take-held.result.value
+    (c.home-place.ensures ∙ ap (home c.args.rule c.args.at) (c.places.ensures.places ∙ c.requires.pass.3)) c.requires.pass.2 t.fact t.known t.pass.2 t.pass.3 c.value.ensures.value
+    (λ s. c.add_end-answer.ensures.sound _ 64 _ s c.requires.closed refl)
+
 pub give-requires-clause-fact : goal.give-requires-clause-fact
-give-requires-clause-fact g c =
-    let t = c.take-held.ensures in let plan = c.args.self.now.plan.now in let call = AddEnd c.args.rule c.args.at c.args.end in
-    let met = c.take-held.result.value in let lent = c.value.result.now in let left = c.add_end-answer.new.self in
-    let home_is : c.home-place.result ≡ place_for plan call = c.home-place.ensures ∙ ap (home c.args.rule c.args.at) (c.places.ensures.places ∙ c.requires.pass.3) in
-    let sound = taken_sound plan c.args.pass.now.me.0.topic c.home-place.result met c.requires.pass.2 t.fact in
-    let keeps : IsSoundBank plan 64 (place_for plan call) lent → IsSoundBank plan 64 (place_for plan call) left = λ s. c.add_end-answer.ensures.sound plan 64 (place_for plan call) s c.requires.closed refl in
-    given_sound plan call c.take-held.new.pass.me.0.topic c.home-place.result c.take-held.result.place met lent left (ap (λ v. v.topic) t.pass.2 ∙ c.requires.pass.2) home_is t.pass.3 c.value.ensures.value sound keeps
+give-requires-clause-fact g c = given_sound _ _ _ _ _ _ _ (held g c)
 
 pub give-requires-clause-grown : goal.give-requires-clause-grown
-give-requires-clause-grown g c =
-    let t = c.take-held.ensures in let lent = c.value.result.now in let left = c.add_end-answer.new.self in let plan = c.args.self.now.plan.now in let call = AddEnd c.args.rule c.args.at c.args.end in
-    subst (λ (log : List Fact). Begins left.log log) (ap (λ b. b.log) c.value.ensures.value ∙ sym (ap (λ v. v.took) t.pass.2)) (grown plan call lent left (λ edges. Meets edges.items) c.add_end-answer.result (c.add_end-answer.ensures.step plan) c.add_end-answer.ensures.err)
+give-requires-clause-grown g c = given_grown _ _ _ _ _ _ _ (held g c) (λ edges. Meets edges.items) c.add_end-answer.result (c.add_end-answer.ensures.step _) c.add_end-answer.ensures.err
+
+made_here : (g : _) (c : goal.After-give g) → Made c.args.self.now.plan.now c.args.pass.now (AddEnd c.args.rule c.args.at c.args.end) (λ edges. Meets edges.items) c.add_end-answer.result c.give.new.pass
+made_here g c = made _ _ _ _ _ _ _ (held_then g c) (λ edges. Meets edges.items) c.give.new.pass c.give.ensures.2 c.add_end-answer.result (c.add_end-answer.ensures.step _) c.add_end-answer.ensures.err
 
 pub returns-clause-step : goal.returns-clause-step
-returns-clause-step g c =
-    let t = c.take-held.ensures in let plan = c.args.self.now.plan.now in let call = AddEnd c.args.rule c.args.at c.args.end in
-    let met = c.take-held.result.value in let lent = c.value.result.now in let left = c.add_end-answer.new.self in
-    let home_is : c.home-place.result ≡ place_for plan call = c.home-place.ensures ∙ ap (home c.args.rule c.args.at) (c.places.ensures.places ∙ c.requires.pass.3) in
-    let sound = taken_sound plan c.args.pass.now.me.0.topic c.home-place.result met c.requires.pass.2 t.fact in
-    let keeps : IsSoundBank plan 64 (place_for plan call) lent → IsSoundBank plan 64 (place_for plan call) left = λ s. c.add_end-answer.ensures.sound plan 64 (place_for plan call) s c.requires.closed refl in
-    let turn = turn_at plan call c.args.pass.now c.give.new.pass met left c.home-place.result c.take-held.result.place lent c.take-held.new.pass home_is c.value.ensures.value t.known sound keeps t.pass.2 t.pass.3 c.give.ensures.2 in
-    ok_step plan call c.args.pass.now c.give.new.pass lent left turn (λ edges. Meets edges.items) c.add_end-answer.result (c.add_end-answer.ensures.step plan)
+returns-clause-step g c = (made_here g c).0
 
 pub returns-clause-tells : goal.returns-clause-tells
-returns-clause-tells g c =
-    let t = c.take-held.ensures in let plan = c.args.self.now.plan.now in let call = AddEnd c.args.rule c.args.at c.args.end in
-    let met = c.take-held.result.value in let lent = c.value.result.now in let left = c.add_end-answer.new.self in
-    let home_is : c.home-place.result ≡ place_for plan call = c.home-place.ensures ∙ ap (home c.args.rule c.args.at) (c.places.ensures.places ∙ c.requires.pass.3) in
-    let sound = taken_sound plan c.args.pass.now.me.0.topic c.home-place.result met c.requires.pass.2 t.fact in
-    let keeps : IsSoundBank plan 64 (place_for plan call) lent → IsSoundBank plan 64 (place_for plan call) left = λ s. c.add_end-answer.ensures.sound plan 64 (place_for plan call) s c.requires.closed refl in
-    let turn = turn_at plan call c.args.pass.now c.give.new.pass met left c.home-place.result c.take-held.result.place lent c.take-held.new.pass home_is c.value.ensures.value t.known sound keeps t.pass.2 t.pass.3 c.give.ensures.2 in
-    ok_tells plan call c.args.pass.now c.give.new.pass lent left turn (λ edges. Meets edges.items) c.add_end-answer.result (c.add_end-answer.ensures.step plan)
+returns-clause-tells g c = (made_here g c).1
 
 pub returns-clause-err : goal.returns-clause-err
-returns-clause-err g c =
-    let t = c.take-held.ensures in let plan = c.args.self.now.plan.now in let call = AddEnd c.args.rule c.args.at c.args.end in
-    let met = c.take-held.result.value in let lent = c.value.result.now in let left = c.add_end-answer.new.self in
-    let home_is : c.home-place.result ≡ place_for plan call = c.home-place.ensures ∙ ap (home c.args.rule c.args.at) (c.places.ensures.places ∙ c.requires.pass.3) in
-    let sound = taken_sound plan c.args.pass.now.me.0.topic c.home-place.result met c.requires.pass.2 t.fact in
-    let keeps : IsSoundBank plan 64 (place_for plan call) lent → IsSoundBank plan 64 (place_for plan call) left = λ s. c.add_end-answer.ensures.sound plan 64 (place_for plan call) s c.requires.closed refl in
-    let turn = turn_at plan call c.args.pass.now c.give.new.pass met left c.home-place.result c.take-held.result.place lent c.take-held.new.pass home_is c.value.ensures.value t.known sound keeps t.pass.2 t.pass.3 c.give.ensures.2 in
-    err_looks plan call c.args.pass.now c.give.new.pass lent left turn (λ edges. Meets edges.items) c.add_end-answer.result c.add_end-answer.ensures.err
+returns-clause-err g c = (made_here g c).2
