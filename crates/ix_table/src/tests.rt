@@ -205,13 +205,12 @@ fn facts_of(alloc: Global, bank: &Bank) -> Result<Vec<Fact>, AllocError> {
 fn is_all_in_first(banks: &Banks) -> bool
     requires { length banks.now.banks.items ≡ 64 }
 {
-    let mut count = 0;
     for bank in &banks.banks[1..] {
         if bank.fact_count() > 0 {
-            count += 1;
+            return false;
         }
     }
-    banks.count() == 64 && count == 0
+    banks.count() == 64
 }
 
 #[test]

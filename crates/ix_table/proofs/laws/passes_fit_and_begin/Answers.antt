@@ -1,4 +1,4 @@
-use Rattle.std.proofs.Common.{◌≡◌, [], length, refl, sym, ap, ◌∙◌, Some, inl, inr, codes, arith}
+use Rattle.std.proofs.Common.{◌≡◌, [], length, refl, ap, ◌∙◌, inl, inr, codes, arith}
 use Rattle.ix_model.specs.Expansion.Parts.{Parts}
 use Rattle.ix_examples.specs.SmallPlans.{cycle}
 use Rattle.ix_cluster.specs.Banks.{opening}
