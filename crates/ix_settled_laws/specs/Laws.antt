@@ -1,6 +1,6 @@
 -- Laws of workers: the beginning is faithful, a step keeps a worker faithful, and where faithful workers owe nothing the
 -- banks are settled. It is this project's own.
-use Rattle.std.specs.Prelude.{◌≡◌, ◌↔◌, ℕ, List, [], ◌∷◌, ◌++◌, Contains, Some, length, remove, slice_get}
+use Rattle.std.specs.Prelude.{◌≡◌, ◌↔◌, ◌⊎◌, ℕ, List, [], ◌∷◌, ◌++◌, Contains, Some, length, remove, slice_get}
 use Rattle.ix_model.specs.Expansion.Parts.{Parts}
 use Rattle.ix_model.specs.Expansion.Planned.{IsPlanned}
 use Rattle.ix_cluster.specs.declared.fact.Fact.{Fact}
@@ -89,7 +89,7 @@ DoneIsSettled = (plan : Parts) (banks : List Bank) (workers : List Worker) → A
 abbrev pub JoinsHaveAll : Type 0
 JoinsHaveAll =
     (first : Sight) (shares : List Share) (last : Sight) → Joins first shares last → ((share : Share) → Contains shares share → (m : ℕ) → Begins (log_at last.known m) (log_at share.sight.known m))
-    × ((m k : ℕ) → Contains last.own (m, k) → ¬ (Contains first.own (m, k)) → (share : Share) × Contains shares share × Contains share.sight.own (m, k))
+    × ((m k : ℕ) → Contains last.own (m, k) ↔ (Contains first.own (m, k) ⊎ ((share : Share) × Contains shares share × Contains share.sight.own (m, k))))
 
 -- no work is lost
 abbrev pub WorkIsSettled : Type 0

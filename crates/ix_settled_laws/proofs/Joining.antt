@@ -1,0 +1,42 @@
+-- Passes that were joined to one.
+use Rattle.std.proofs.Common.{◌≡◌, ◌⊎◌, ◌↔◌, ℕ, List, [], ◌∷◌, ◌++◌, Contains, sym, subst, inl, inr}
+use Rattle.std.proofs.lemmas.List.Elements.{Contains-append_left, Contains-append_right, Contains-append_cases, Contains-push, Contains-push_cases}
+use Rattle.ix_cluster.proofs.Members.{none_has}
+use Rattle.ix_rows.specs.Beginnings.{Begins}
+use Rattle.ix_rows.specs.Logs.{log_at}
+use Rattle.ix_rows.proofs.Logs.{begins_further}
+use Rattle.ix_table.specs.Sights.{Sight}
+use Rattle.ix_settled_laws.specs.Joined.{Share, Joins, none, one_more}
+
+-- the last knows what each of them knew
+pub joins_know : (first : Sight) (shares : List Share) (last : Sight) → Joins first shares last → (share : Share) → Contains shares share → (m : ℕ) → Begins (log_at last.known m) (log_at share.sight.known m)
+joins_know first shares last none share h m = absurd (none_has share h)
+joins_know first shares last (one_more before old one _ joins own known) share h m = elim (Contains-push_cases before one share h) [
+  | inl o ↦ begins_further (log_at last.known m) (log_at old.known m) (log_at share.sight.known m) (known m).0 (joins_know first before old joins share o m)
+  | inr e ↦ subst (λ (s : Share). Begins (log_at last.known m) (log_at s.sight.known m)) e (known m).1
+]
+
+-- the first has the entry, or one of the shares has
+abbrev pub OneHas : Sight → List Share → ℕ → ℕ → Type 0
+OneHas first shares m k = Contains first.own (m, k) ⊎ ((share : Share) × Contains shares share × Contains share.sight.own (m, k))
+
+-- what the last has one of them had
+pub joins_from : (first : Sight) (shares : List Share) (last : Sight) → Joins first shares last → (m k : ℕ) → Contains last.own (m, k) → OneHas first shares m k
+joins_from first shares last none m k h = inl h
+joins_from first shares last (one_more before old one _ joins own known) m k h = elim (Contains-append_cases old.own one.sight.own (m, k) (subst (λ (l : List (ℕ × ℕ)). Contains l (m, k)) own h)) [
+  | inl o ↦ elim (joins_from first before old joins m k o) [ inl f ↦ inl f | inr s ↦ inr (s.0, Contains-append_left before (one ∷ []) s.0 s.1, s.2) ]
+  | inr n ↦ inr (one, Contains-push before one, n)
+]
+
+-- and what one of them had the last has
+pub joins_have : (first : Sight) (shares : List Share) (last : Sight) → Joins first shares last → (m k : ℕ) → OneHas first shares m k → Contains last.own (m, k)
+joins_have first shares last none m k (inl h) = h
+joins_have first shares last none m k (inr s) = absurd (none_has s.0 s.1)
+joins_have first shares last (one_more before old one _ joins own known) m k had =
+    subst (λ (l : List (ℕ × ℕ)). Contains l (m, k)) (sym own) (elim had [
+      | inl h ↦ Contains-append_left old.own one.sight.own (m, k) (joins_have first before old joins m k (inl h))
+      | inr s ↦ elim (Contains-push_cases before one s.0 s.1) [
+        | inl o ↦ Contains-append_left old.own one.sight.own (m, k) (joins_have first before old joins m k (inr (s.0, o, s.2)))
+        | inr e ↦ Contains-append_right old.own one.sight.own (m, k) (subst (λ (x : Share). Contains x.sight.own (m, k)) (sym e) s.2)
+      ]
+    ])
