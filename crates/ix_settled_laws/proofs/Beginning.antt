@@ -109,6 +109,11 @@ module _ (plan : Parts) (count : ℕ) where
   due_owed x (ends s l p r h last) = absurd (claimed s l p h)
   due_owed x (meets r k s l e after mark edge end next) = absurd (no_edge plan (record { banks = opening plan count; owed = [] }) count refl r k s l edge)
 
+  pub none_claimed : (s l p : ℕ) → IsKnown (record { known = logs_of (opening plan count); own = [] }) (fact.Claim s l p) → ⊥
+  none_claimed s l p (m, h) =
+      let b = log_there (opening plan count) m (fact.Claim s l p) h in
+      claimed s l p (recorded_by (opening plan count) m b.0 (fact.Claim s l p) b.1 (subst (λ (z : List Fact). Contains z (fact.Claim s l p)) b.2 h))
+
   module _ (sound : AreSound plan (opening plan count)) where
     claims_closed : OwesClosed plan (claims_for (facts_of (opening plan count)))
     claims_closed x h =

@@ -1,11 +1,16 @@
 -- Passes that were joined to one.
-use Rattle.std.proofs.Common.{◌≡◌, ◌⊎◌, ◌↔◌, ℕ, List, [], ◌∷◌, ◌++◌, Contains, sym, subst, inl, inr}
+use Rattle.std.proofs.Common.{◌≡◌, ◌⊎◌, ◌↔◌, ℕ, List, [], ◌∷◌, ◌++◌, Contains, sym, ap, ◌∙◌, subst, inl, inr}
 use Rattle.std.proofs.lemmas.List.Elements.{Contains-append_left, Contains-append_right, Contains-append_cases, Contains-push, Contains-push_cases}
+use Rattle.ix_model.specs.Expansion.Parts.{Parts}
+use Rattle.ix_cluster.specs.declared.fact.Fact.{Fact}
+use Rattle.ix_cluster.specs.Seen.{Bank}
 use Rattle.ix_cluster.proofs.Members.{none_has}
 use Rattle.ix_rows.specs.Beginnings.{Begins}
 use Rattle.ix_rows.specs.Logs.{log_at}
+use Rattle.ix_rows.specs.Passes.{Pass}
+use Rattle.ix_rows.specs.Views.{both_of, merged}
 use Rattle.ix_rows.proofs.Logs.{begins_further}
-use Rattle.ix_table.specs.Sights.{Sight}
+use Rattle.ix_table.specs.Sights.{Sight, sight_of}
 use Rattle.ix_settled_laws.specs.Joined.{Share, Joins, none, one_more}
 
 -- the last knows what each of them knew
@@ -40,3 +45,14 @@ joins_have first shares last (one_more before old one _ joins own known) m k had
         | inr e ↦ Contains-append_right old.own one.sight.own (m, k) (subst (λ (x : Share). Contains x.sight.own (m, k)) (sym e) s.2)
       ]
     ])
+
+-- a pass of a table that comes back is one more
+pub one_pass_more : (first : Sight) (shares : List Share) (root other after : Pass Bank Parts Fact) (share : Share) → Joins first shares (sight_of root) → share.sight ≡ sight_of other → after.me.0 ≡ merged (both_of root.me.0 other.me.0)
+    → ((m : ℕ) → Begins (log_at (sight_of after).known m) (log_at (sight_of root).known m) × Begins (log_at (sight_of after).known m) (log_at (sight_of other).known m))
+    → Joins first (shares ++ share ∷ []) (sight_of after) × (after.me.0.begun ≡ root.me.0.begun)
+one_pass_more first shares root other after share joins is made known = (
+  one_more shares (sight_of root) share (sight_of after) joins
+    (ap (λ v. v.own) made ∙ ap (λ (s : Sight). root.me.0.own ++ s.own) (sym is))
+    (λ m. ((known m).0, subst (λ (s : Sight). Begins (log_at after.me.0.known m) (log_at s.known m)) (sym is) (known m).1)),
+  ap (λ v. v.begun) made,
+)

@@ -5,5 +5,6 @@ pub mod Joining
 pub mod MoreClosed
 pub mod NewEntries
 pub mod Settling
+pub mod Small
 pub mod Steps
 pub mod Whole

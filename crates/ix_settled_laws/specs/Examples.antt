@@ -1,8 +1,11 @@
--- Small workers over the one bank of `S: .` on the empty text, of which the worked examples speak.
-use Rattle.std.specs.Prelude.{ℕ, List, [], ◌∷◌}
+-- Small workers over the one bank of `S: .` on the empty text that is not empty, of which the worked examples speak.
+use Rattle.std.specs.Prelude.{ℕ, List, [], ◌∷◌, ◌++◌}
+use Rattle.ix_cluster.specs.declared.fact.Fact.{Fact}
+use Rattle.ix_cluster.specs.declared.fact.Fact.TheVariants as fact
 use Rattle.ix_closure.specs.declared.owed.Owed.{Owed}
 use Rattle.ix_closure.specs.Examples.{nothing_called}
 use Rattle.ix_table.specs.Examples.{seen}
+use Rattle.ix_settled_laws.specs.Joined.{Share}
 use Rattle.ix_settled_laws.specs.Workers.{Worker}
 
 -- the worker that answers for the three entries at the start, and owes these
@@ -12,3 +15,15 @@ leader owed = record { begun = 3 ∷ []; sight = seen nothing_called []; owed = 
 -- one that answers for none of them, but for these entries that came by it, and owes these
 abbrev pub follower : List (ℕ × ℕ) → List Owed → Worker
 follower own owed = record { begun = []; sight = seen nothing_called own; owed = owed }
+
+-- the log after the first claim
+abbrev pub once_claimed : List Fact
+once_claimed = nothing_called ++ fact.Claim 0 0 0 ∷ []
+
+-- the share of a worker that claimed the descriptor, and owes these
+abbrev pub claimer : List Owed → Share
+claimer owed = record { sight = seen once_claimed ((0, 3) ∷ []); owed = owed }
+
+-- the worker that such a share leaves to one that answers for the start too
+abbrev pub leader_later : List Owed → Worker
+leader_later owed = record { begun = 3 ∷ []; sight = seen once_claimed ((0, 3) ∷ []); owed = owed }

@@ -16,8 +16,10 @@ use Rattle.ix_closure.specs.Events.{call_of, home_for, log_after}
 use Rattle.ix_closure.specs.Follows.{claims_for}
 use Rattle.ix_rows.specs.Beginnings.{Begins}
 use Rattle.ix_rows.specs.Logs.{log_at}
+use Rattle.ix_rows.specs.Passes.{Pass}
+use Rattle.ix_rows.specs.Views.{left_of, right_of, both_of, merged}
 use Rattle.ix_table.specs.Calls.{place_for}
-use Rattle.ix_table.specs.Sights.{Sight, seen_after}
+use Rattle.ix_table.specs.Sights.{Sight, sight_of, seen_after}
 use Rattle.ix_table.specs.Tables.{logs_of, lengths_of, IsClosed}
 use Rattle.ix_table.specs.TableSteps.{IsStep}
 use Rattle.ix_settled_laws.specs.Done.{IsDone, Works}
@@ -43,6 +45,12 @@ abbrev pub OpeningIsFaithful : Type 0
 OpeningIsFaithful =
     (plan : Parts) (count : ℕ) → AreSound plan (opening plan count)
     → IsFaithful plan count (record { begun = lengths_of (opening plan count); sight = record { known = logs_of (opening plan count); own = [] }; owed = claims_for (facts_of (opening plan count)) })
+
+-- a pass that is split off sees what the root sees, with no entry of its own, and the root stays as it was
+abbrev pub SplitsSeeTheSame : Type 0
+SplitsSeeTheSame =
+    (root left right : Pass Bank Parts Fact) → left.me.0 ≡ left_of root.me.0 → right.me.0 ≡ right_of root.me.0
+    → (sight_of left ≡ sight_of root) × (left.me.0.begun ≡ root.me.0.begun) × (sight_of right ≡ record { known = (sight_of root).known; own = [] })
 
 -- ---- a step
 
@@ -90,6 +98,13 @@ abbrev pub JoinsHaveAll : Type 0
 JoinsHaveAll =
     (first : Sight) (shares : List Share) (last : Sight) → Joins first shares last → ((share : Share) → Contains shares share → (m : ℕ) → Begins (log_at last.known m) (log_at share.sight.known m))
     × ((m k : ℕ) → Contains last.own (m, k) ↔ (Contains first.own (m, k) ⊎ ((share : Share) × Contains shares share × Contains share.sight.own (m, k))))
+
+-- a pass that comes back is one more
+abbrev pub JoinsAreOneMore : Type 0
+JoinsAreOneMore =
+    (first : Sight) (shares : List Share) (root other after : Pass Bank Parts Fact) (share : Share) → Joins first shares (sight_of root) → share.sight ≡ sight_of other → after.me.0 ≡ merged (both_of root.me.0 other.me.0)
+    → ((m : ℕ) → Begins (log_at (sight_of after).known m) (log_at (sight_of root).known m) × Begins (log_at (sight_of after).known m) (log_at (sight_of other).known m))
+    → Joins first (shares ++ share ∷ []) (sight_of after) × (after.me.0.begun ≡ root.me.0.begun)
 
 -- no work is lost
 abbrev pub WorkIsSettled : Type 0
