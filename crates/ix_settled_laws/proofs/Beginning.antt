@@ -33,12 +33,12 @@ log_there [] m f h = absurd (none_has f h)
 log_there (b ∷ banks) zero f h = (b, refl, refl)
 log_there (b ∷ banks) (suc m) f h = log_there banks m f h
 
-log_is : (banks : List Bank) (m : ℕ) (bank : Bank) → slice_get banks m ≡ Some bank → log_at (logs_of banks) m ≡ bank.log
+pub log_is : (banks : List Bank) (m : ℕ) (bank : Bank) → slice_get banks m ≡ Some bank → log_at (logs_of banks) m ≡ bank.log
 log_is [] m bank e = absurd (cc)
 log_is (b ∷ banks) zero bank e = let same : b ≡ bank = cc in ap (λ (x : Bank). x.log) same
 log_is (b ∷ banks) (suc m) bank e = log_is banks m bank e
 
-lengths_are : (banks : List Bank) (m : ℕ) → slice_index_or (lengths_of banks) m 0 ≡ length (log_at (logs_of banks) m)
+pub lengths_are : (banks : List Bank) (m : ℕ) → slice_index_or (lengths_of banks) m 0 ≡ length (log_at (logs_of banks) m)
 lengths_are [] m = refl
 lengths_are (b ∷ banks) zero = refl
 lengths_are (b ∷ banks) (suc m) = lengths_are banks m

@@ -52,7 +52,7 @@ pub one_pass_more : (first : Sight) (shares : List Share) (root other after : Pa
     → Joins first (shares ++ share ∷ []) (sight_of after) × (after.me.0.begun ≡ root.me.0.begun)
 one_pass_more first shares root other after share joins is made known = (
   one_more shares (sight_of root) share (sight_of after) joins
-    (ap (λ v. v.own) made ∙ ap (λ (s : Sight). root.me.0.own ++ s.own) (sym is))
-    (λ m. ((known m).0, subst (λ (s : Sight). Begins (log_at after.me.0.known m) (log_at s.known m)) (sym is) (known m).1)),
+      (ap (λ v. v.own) made ∙ ap (λ (s : Sight). root.me.0.own ++ s.own) (sym is))
+      (λ m. ((known m).0, subst (λ (s : Sight). Begins (log_at after.me.0.known m) (log_at s.known m)) (sym is) (known m).1)),
   ap (λ v. v.begun) made,
 )

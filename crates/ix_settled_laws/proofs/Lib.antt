@@ -6,5 +6,6 @@ pub mod MoreClosed
 pub mod NewEntries
 pub mod Settling
 pub mod Small
+pub mod SmallWork
 pub mod Steps
 pub mod Whole

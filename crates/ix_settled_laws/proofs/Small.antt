@@ -41,25 +41,25 @@ use Rattle.ix_settled_laws.proofs.Steps.{taken_last, work_keeps}
 
 -- ---- the bank
 
-abbrev called_bank : Bank
+abbrev pub called_bank : Bank
 called_bank = record { log = nothing_called; handed = 0 }
 
-abbrev claimed_bank : Bank
+abbrev pub claimed_bank : Bank
 claimed_bank = record { log = once_claimed; handed = 0 }
 
-abbrev ended_bank : Bank
+abbrev pub ended_bank : Bank
 ended_bank = record { log = nothing_closed; handed = 0 }
 
-called_sound : IsSoundBank (nothing []) 64 0 called_bank
+pub called_sound : IsSoundBank (nothing []) 64 0 called_bank
 called_sound = sound-begin (nothing []) 64 0 nothing_planned refl (search rules)
 
-claimed_sound : IsSoundBank (nothing []) 64 0 claimed_bank
+pub claimed_sound : IsSoundBank (nothing []) 64 0 claimed_bank
 claimed_sound = sound-claim (nothing []) 64 0 called_bank claimed_bank 0 0 0 refl refl (search rules) called_sound
 
 desc_closed : closed.Desc (nothing []) 0 0 0
 desc_closed = closed.begun 0 0 0 closed.start nothing_first
 
-ended_sound : IsSoundBank (nothing []) 64 0 ended_bank
+pub ended_sound : IsSoundBank (nothing []) 64 0 ended_bank
 ended_sound = sound-end (nothing []) 64 0 claimed_bank ended_bank 0 0 0 [] refl refl refl (search rules) refl (closed.ended 0 0 0 0 desc_closed nothing_last) claimed_sound
 
 -- ---- what is known
@@ -89,7 +89,7 @@ beyond owed there closed = let w = desc_within (nothing []) nothing_planned 0 0 
 
 -- ---- what is covered
 
-some_is : {A : Type 0} → (a b : A) → Some a ≡ Some b → a ≡ b
+pub some_is : {A : Type 0} → (a b : A) → Some a ≡ Some b → a ≡ b
 some_is a b e = cc
 
 pub inside : (owed : List Owed) → Inside (leader owed)

@@ -13,7 +13,7 @@ ghost use Rattle.ix_table.specs.Sights.{Sight};
 ghost use Rattle.ix_settled_laws.specs.Brought.{IsBrought};
 ghost use Rattle.ix_settled_laws.specs.Covered.{Inside, Covered};
 ghost use Rattle.ix_settled_laws.specs.Done.{IsDone, Works};
-ghost use Rattle.ix_settled_laws.specs.Examples.{leader, follower, once_claimed, claimer, leader_later};
+ghost use Rattle.ix_settled_laws.specs.Examples.{leader, follower, once_claimed, claimer, leader_later, only_job, ended_sight, ended_banks};
 ghost use Rattle.ix_settled_laws.specs.Faithful.{AtHome, IsFaithful, KeepsFaith};
 ghost use Rattle.ix_settled_laws.specs.Joined.{Share, Joins, first_sight, IsWork};
 ghost use Rattle.ix_settled_laws.specs.Laws.{AreDone, BeginningIsFaithful, OpeningIsFaithful, SplitsSeeTheSame, StepsOfOwed, ListsTakeOut, DoneOwesClosed, DoneKeepsFaith, WorkKeepsFaith, DoneIsSettled, JoinsHaveAll, JoinsAreOneMore, WorkIsSettled, NoneIsMissing, SettledIsClosure};
@@ -256,6 +256,7 @@ pub fn passes_begin_with_the_table()
 
 /// The first worker owes the claims at the start and the others nothing, each comes back, and none owes anything then.
 pub fn work_has_its_parts()
+    ensures whole { IsWork (nothing []) (only_job ∷ []) (record { sight = ended_sight; owed = [] } ∷ []) ended_sight ended_banks }
     ensures no_worker { (plan : Parts) (done : List Share) (root : Sight) (banks : List Seen) → ¬ (IsWork plan [] done root banks) }
     ensures claims_nothing { (done : List Share) (root : Sight) (banks : List Seen) → ¬ (IsWork (nothing []) (record { sight = first_sight (nothing []); owed = [] } ∷ []) done root banks) }
     ensures claims_twice { (plan : Parts) (first : Share) (done : List Share) (root : Sight) (banks : List Seen) → ¬ (IsWork plan (first ∷ record { sight = first_sight plan; owed = Claim 0 0 0 ∷ [] } ∷ []) done root banks) }

@@ -1,4 +1,4 @@
-use Rattle.std.proofs.Common.{[], ◌∷◌, inl, inr, lit<, arith}
+use Rattle.std.proofs.Common.{[], inl, inr, lit<, arith}
 use Rattle.ix_cluster.proofs.Members.{first_has}
 use Rattle.ix_settled_laws.proofs.Small.{inside}
 use Rattle.ix_settled_laws.proofs.laws.entries_are_inside.Goals as goal

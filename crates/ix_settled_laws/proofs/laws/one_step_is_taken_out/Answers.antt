@@ -1,4 +1,4 @@
-use Rattle.std.proofs.Common.{[], ◌∷◌, inl, inr, refl}
+use Rattle.std.proofs.Common.{[], ◌∷◌, inl, inr}
 use Rattle.ix_cluster.proofs.Members.{first_has, rest_has, none_has}
 use Rattle.ix_closure.specs.declared.owed.Owed.TheVariants.{Claim, End}
 use Rattle.ix_settled_laws.proofs.laws.one_step_is_taken_out.Goals as goal

@@ -1,5 +1,5 @@
 use Rattle.std.proofs.Common.{[], ◌∷◌}
-use Rattle.ix_cluster.proofs.Members.{first_has, rest_has, none_has}
+use Rattle.ix_cluster.proofs.Members.{first_has, rest_has}
 use Rattle.ix_closure.specs.declared.owed.Owed.TheVariants.{Claim}
 use Rattle.ix_settled_laws.proofs.Small.{claim_owed, beyond}
 use Rattle.ix_settled_laws.proofs.laws.owed_steps_are_true.Goals as goal

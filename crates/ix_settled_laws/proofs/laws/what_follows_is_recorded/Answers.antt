@@ -1,4 +1,4 @@
-use Rattle.std.proofs.Common.{[], ◌∷◌, None, arith, refl, codes}
+use Rattle.std.proofs.Common.{[], ◌∷◌, None, arith, refl}
 use Rattle.ix_model.specs.Closure.Useful.{sub_at}
 use Rattle.ix_examples.specs.SmallPlans.{nothing}
 use Rattle.ix_cluster.specs.declared.fact.Fact.TheVariants as fact

@@ -2,7 +2,11 @@ use Rattle.std.proofs.Common.{[], ◌∷◌, refl, ap, ℕ}
 use Rattle.ix_closure.specs.declared.owed.Owed.TheVariants.{Claim, End}
 use Rattle.ix_table.specs.Sights.{Sight}
 use Rattle.ix_settled_laws.specs.Examples.{claimer}
+use Rattle.ix_settled_laws.proofs.SmallWork.{only_work}
 use Rattle.ix_settled_laws.proofs.laws.work_has_its_parts.Goals as goal
+
+pub returns-clause-whole : goal.returns-clause-whole
+returns-clause-whole c = only_work
 
 pub returns-clause-claims_twice : goal.returns-clause-claims_twice
 returns-clause-claims_twice c = λ plan first done root banks w. let e = w.nothing 0 _ refl in absurd (cc e)
