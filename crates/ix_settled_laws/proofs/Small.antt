@@ -1,9 +1,8 @@
 -- The small workers of the worked examples.
-use Rattle.std.proofs.Common.{◌≡◌, ◌⊎◌, ℕ, zero, suc, ◌<◌, List, [], ◌∷◌, ◌++◌, length, take, Contains, Some, slice_get, slice_index_or, refl, sym, subst, inl, inr, arith, rules, codes}
+use Rattle.std.proofs.Common.{◌≡◌, ℕ, zero, suc, ◌<◌, List, [], ◌∷◌, ◌++◌, length, take, Contains, Some, slice_get, slice_index_or, refl, sym, subst, inl, inr, arith, rules, codes}
 use Rattle.std.proofs.lemmas.Option.{slice_get_within}
 use Rattle.ix_model.specs.Closure.Closed as closed
 use Rattle.ix_model.specs.Closure.Useful.{sub_at}
-use Rattle.ix_model.specs.Expansion.Parts.{Parts}
 use Rattle.ix_model.specs.Expansion.SlotPlaces.{HasNext}
 use Rattle.ix_examples.specs.SmallPlans.{call, cycle, nothing}
 use Rattle.ix_closure_laws.proofs.ClosedWithin.{desc_within}
@@ -14,7 +13,7 @@ use Rattle.ix_cluster.specs.BankSteps.{Belongs, Meets, claim_mine, claim_taken, 
 use Rattle.ix_cluster.specs.ClosedFacts.{IsInClosed}
 use Rattle.ix_cluster.specs.Seen.{Bank}
 use Rattle.ix_cluster.specs.Sound.{IsSoundBank}
-use Rattle.ix_cluster.proofs.Members.{none_has, one_has, first_has, rest_has, either_has}
+use Rattle.ix_cluster.proofs.Members.{none_has, one_has, first_has}
 use Rattle.ix_cluster.proofs.Soundness.{sound-begin, sound-claim, sound-end}
 use Rattle.ix_closure.specs.declared.owed.Owed.{Owed}
 use Rattle.ix_closure.specs.declared.owed.Owed.TheVariants.{Claim, End}
@@ -32,7 +31,7 @@ use Rattle.ix_settled_laws.specs.Brought.{IsBrought}
 use Rattle.ix_settled_laws.specs.Covered.{Inside, Covered}
 use Rattle.ix_settled_laws.specs.Done.{IsDone, Works, begins, goes_on}
 use Rattle.ix_settled_laws.specs.Examples.{leader, follower, once_claimed, leader_later}
-use Rattle.ix_settled_laws.specs.Faithful.{AtHome, IsFaithful, KeepsFaith}
+use Rattle.ix_settled_laws.specs.Faithful.{AtHome, IsFaithful}
 use Rattle.ix_settled_laws.specs.Laws.{AreDone}
 use Rattle.ix_settled_laws.specs.Owing.{OwesClosed}
 use Rattle.ix_settled_laws.specs.Workers.{Worker, Answers, IsKnown}

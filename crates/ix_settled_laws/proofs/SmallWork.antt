@@ -1,11 +1,10 @@
 -- The whole work of one worker over the 64 banks of a small plan.
-use Rattle.std.proofs.Common.{◌≡◌, ◌≢◌, ◌-◌, ℕ, zero, suc, ◌<◌, List, [], ◌∷◌, ◌++◌, length, Contains, Some, slice_get, slice_index_or, refl, sym, ap, ◌∙◌, subst, arith, rules, lit<, lit≤, ne_eqb, cond, Bool}
+use Rattle.std.proofs.Common.{◌≡◌, ◌-◌, ℕ, zero, suc, ◌<◌, [], ◌∷◌, length, Some, slice_get, slice_index_or, refl, sym, ap, ◌∙◌, subst, arith, rules, lit<, lit≤, ne_eqb, cond, Bool}
 use Rattle.std.specs.List.{IsDistinct}
 use Rattle.std.proofs.lemmas.List.FromFn.{get_or-map-range_with_len}
 use Rattle.std.proofs.lemmas.Option.{get_or_from_slice_get, slice_get_within}
 use Rattle.ix_examples.specs.SmallPlans.{nothing}
 use Rattle.ix_cluster.specs.declared.answers.Claimed.TheVariants.{Mine}
-use Rattle.ix_cluster.specs.declared.fact.Fact.{Fact}
 use Rattle.ix_cluster.specs.declared.fact.Fact.TheVariants as fact
 use Rattle.ix_cluster.specs.BankSteps.{Belongs, Meets, claim_mine, end_comes}
 use Rattle.ix_cluster.specs.Banks.{opening, opening_bank}
@@ -13,7 +12,6 @@ use Rattle.ix_cluster.specs.Seen.{Bank}
 use Rattle.ix_cluster.specs.Sound.{IsSoundBank, AreSound}
 use Rattle.ix_cluster.specs.Steps.{after_call}
 use Rattle.ix_cluster.proofs.Members.{none_has}
-use Rattle.ix_closure.specs.declared.owed.Owed.{Owed}
 use Rattle.ix_closure.specs.declared.owed.Owed.TheVariants.{Claim, End}
 use Rattle.ix_closure.specs.Examples.{nothing_called, nothing_closed}
 use Rattle.ix_closure.proofs.Small.SmallSteps.{nothing_ends}
@@ -22,10 +20,10 @@ use Rattle.ix_rows.specs.Logs.{log_at}
 use Rattle.ix_rows.specs.Numbers.{run, times}
 use Rattle.ix_rows.proofs.Logs.{begins_all, times_elsewhere}
 use Rattle.ix_table.specs.Sights.{Sight, seen_after}
-use Rattle.ix_table.specs.Tables.{logs_of, lengths_of, IsClosed}
+use Rattle.ix_table.specs.Tables.{lengths_of, IsClosed}
 use Rattle.ix_settled_laws.specs.Done.{IsDone, Works, begins, goes_on}
 use Rattle.ix_settled_laws.specs.Examples.{once_claimed, only_job, ended_sight, ended_banks}
-use Rattle.ix_settled_laws.specs.Joined.{Share, Joins, none, one_more, first_sight, IsWork}
+use Rattle.ix_settled_laws.specs.Joined.{Share, none, one_more, first_sight, IsWork}
 use Rattle.ix_settled_laws.proofs.Beginning.{log_is, lengths_are}
 use Rattle.ix_settled_laws.proofs.Small.{called_bank, claimed_bank, ended_bank, called_sound, claimed_sound, ended_sound, some_is}
 use Rattle.ix_settled_laws.proofs.Steps.{taken_last}

@@ -6,12 +6,11 @@ use Rattle.std.proofs.lemmas.Option.{slice_get-get_or, slice_get_within}
 use Rattle.ix_model.specs.Expansion.Parts.{Parts}
 use Rattle.ix_model.specs.Expansion.Planned.{IsPlanned}
 use Rattle.ix_cluster.specs.declared.fact.Fact.{Fact}
-use Rattle.ix_cluster.specs.Banks.{opening, opening_bank, facts_of}
+use Rattle.ix_cluster.specs.Banks.{opening, opening_bank}
 use Rattle.ix_cluster.specs.Seen.{Bank}
 use Rattle.ix_cluster.specs.Sound.{AreSound}
 use Rattle.ix_cluster.proofs.Members.{first_has, rest_has, either_has, none_has, nth_has}
 use Rattle.ix_closure.specs.declared.owed.Owed.{Owed}
-use Rattle.ix_closure.specs.Follows.{claims_for}
 use Rattle.ix_closure.proofs.Lists.ListMembers.{map_has, map_from, place_in}
 use Rattle.ix_rows.specs.Beginnings.{Begins}
 use Rattle.ix_rows.specs.Logs.{log_at}

@@ -18,9 +18,8 @@ use Rattle.ix_rows.specs.Beginnings.{Begins}
 use Rattle.ix_rows.specs.Logs.{log_at}
 use Rattle.ix_rows.specs.Passes.{Pass}
 use Rattle.ix_rows.specs.Views.{left_of, right_of, both_of, merged}
-use Rattle.ix_table.specs.Calls.{place_for}
 use Rattle.ix_table.specs.Sights.{Sight, sight_of, seen_after}
-use Rattle.ix_table.specs.Tables.{logs_of, lengths_of, IsClosed}
+use Rattle.ix_table.specs.Tables.{logs_of, lengths_of}
 use Rattle.ix_table.specs.TableSteps.{IsStep}
 use Rattle.ix_settled_laws.specs.Done.{IsDone, Works}
 use Rattle.ix_settled_laws.specs.Faithful.{IsFaithful, KeepsFaith}

@@ -1,4 +1,4 @@
-use Rattle.std.proofs.Common.{[], ◌∷◌, refl, ap, ℕ}
+use Rattle.std.proofs.Common.{[], ◌∷◌, refl, ap}
 use Rattle.ix_closure.specs.declared.owed.Owed.TheVariants.{Claim, End}
 use Rattle.ix_table.specs.Sights.{Sight}
 use Rattle.ix_settled_laws.specs.Examples.{claimer}
