@@ -25,6 +25,7 @@ use Rattle.ix_closure.proofs.Small.SmallSteps.{nothing_planned, nothing_first, n
 use Rattle.ix_closure.proofs.Small.SmallStates.{nothing_ended_tidy}
 use Rattle.ix_rows.specs.Beginnings.{Begins}
 use Rattle.ix_rows.specs.Logs.{log_at}
+use Rattle.ix_rows.proofs.Counts.{some_is}
 use Rattle.ix_rows.proofs.Logs.{begins_all}
 use Rattle.ix_table.specs.Examples.{seen}
 use Rattle.ix_settled_laws.specs.Brought.{IsBrought}
@@ -87,9 +88,6 @@ pub beyond : (owed : List Owed) → Contains owed (Claim 0 0 1) → OwesClosed (
 beyond owed there closed = let w = desc_within (nothing []) nothing_planned 0 0 1 (closed (Claim 0 0 1) there) in let high = w.2 in omega (arith, high)
 
 -- ---- what is covered
-
-pub some_is : {A : Type 0} → (a b : A) → Some a ≡ Some b → a ≡ b
-some_is a b e = cc
 
 pub inside : (owed : List Owed) → Inside (leader owed)
 inside owed zero k (inl low) = low

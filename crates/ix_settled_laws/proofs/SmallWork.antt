@@ -18,6 +18,7 @@ use Rattle.ix_closure.proofs.Small.SmallSteps.{nothing_ends}
 use Rattle.ix_rows.specs.Beginnings.{Begins}
 use Rattle.ix_rows.specs.Logs.{log_at}
 use Rattle.ix_rows.specs.Numbers.{run, times}
+use Rattle.ix_rows.proofs.Counts.{some_is}
 use Rattle.ix_rows.proofs.Logs.{begins_all, times_elsewhere}
 use Rattle.ix_table.specs.Sights.{Sight, seen_after}
 use Rattle.ix_table.specs.Tables.{lengths_of, IsClosed}
@@ -25,7 +26,7 @@ use Rattle.ix_settled_laws.specs.Done.{IsDone, Works, begins, goes_on}
 use Rattle.ix_settled_laws.specs.Examples.{once_claimed, only_job, ended_sight, ended_banks}
 use Rattle.ix_settled_laws.specs.Joined.{Share, none, one_more, first_sight, IsWork}
 use Rattle.ix_settled_laws.proofs.Beginning.{log_is, lengths_are}
-use Rattle.ix_settled_laws.proofs.Small.{called_bank, claimed_bank, ended_bank, called_sound, claimed_sound, ended_sound, some_is}
+use Rattle.ix_settled_laws.proofs.Small.{called_bank, claimed_bank, ended_bank, called_sound, claimed_sound, ended_sound}
 use Rattle.ix_settled_laws.proofs.Steps.{taken_last}
 
 -- ---- the steps

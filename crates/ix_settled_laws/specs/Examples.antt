@@ -1,5 +1,4 @@
--- Small workers over the banks of `S: .` on the empty text, of which the first alone has facts, of which the worked examples
--- speak.
+-- Small workers over the banks of `S: .` on the empty text: what the worked examples speak of. The first bank alone has facts.
 use Rattle.std.specs.Prelude.{ℕ, List, [], ◌∷◌, ◌++◌, drop}
 use Rattle.ix_cluster.specs.declared.fact.Fact.{Fact}
 use Rattle.ix_cluster.specs.declared.fact.Fact.TheVariants as fact
