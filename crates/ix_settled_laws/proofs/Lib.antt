@@ -1,0 +1,11 @@
+pub mod Beginning
+pub mod Entries
+pub mod Grown
+pub mod Joining
+pub mod MoreClosed
+pub mod NewEntries
+pub mod Settling
+pub mod Small
+pub mod SmallWork
+pub mod Steps
+pub mod Whole

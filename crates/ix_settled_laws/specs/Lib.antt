@@ -1,0 +1,11 @@
+pub mod Brought
+pub mod Covered
+pub mod Done
+pub mod Examples
+pub mod Faithful
+pub mod Joined
+pub mod Laws
+pub mod Owing
+pub mod Settled
+pub mod Taking
+pub mod Workers
