@@ -36,8 +36,8 @@ pub fn banks_alone(alloc: Global, plan: &Plan) -> Result<Banks, AllocError>
     Core::begin(alloc, plan)?.finish().map_err(|_| AllocError)
 }
 
-/// Banks that have recorded the closure, by the work of so many workers. One works alone, since it has nobody to share with.
-/// An error is want of memory.
+/// Banks that have recorded the closure, by the work of 1 to 64 workers. One does it as a core: it needs no locks. An error is
+/// want of memory.
 pub fn banks_shared<R: Threads + Wait + Sync, G: Gate + Sync>(
     rt: &R,
     alloc: Global,

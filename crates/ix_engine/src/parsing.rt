@@ -47,13 +47,13 @@ pub fn parse_alone(alloc: Global, grammar: &Grammar, bytes: &[u8]) -> Result<Out
     outcome_of(alloc, plan, banks)
 }
 
-/// As `parse_alone`, by the work of so many workers, each of which calls `gate.reach` before each of its claims. The answers
-/// are the same for each number of workers, and in whatever order they work. One worker does the work alone, and calls no
-/// gate.
+/// What `parse_alone` answers, by the work of 1 to 64 workers that share the clusters.
 ///
-/// It waits for locks, so it is not promised to return.
+/// The answers are the same for each number of workers and in whatever order they work. One worker works as `parse_alone`
+/// does. Of several each calls `gate.reach` before each of its claims, with its number from 0 and the claims it has made;
+/// where no thread can be made, they run one after another.
 ///
-/// Condition: 1 to 64 workers.
+/// It waits for the locks of the clusters, so that it may not return.
 pub fn parse<R: Threads + Wait + Sync, G: Gate + Sync>(
     rt: &R,
     alloc: Global,
