@@ -1,6 +1,5 @@
 //! The closure of a plan: where it fails, what is of use in it, and how large it is.
 ghost use Rattle.std.specs.Prelude.{◌≤◌, IfOk, length};
-ghost use Rattle.ix_model.specs.Expansion.Planned.{IsPlanned};
 ghost use Rattle.ix_cluster.specs.Banks.{facts_of};
 ghost use Rattle.ix_cluster.specs.declared.limits.TheConstants.{BANK_LIMIT};
 ghost use Rattle.ix_closure.specs.Closure.{IsClosure};
@@ -11,9 +10,13 @@ ghost use Rattle.ix_model.specs.Closure.Figures.{AreCounts};
 use ix_closure::Core;
 use ix_closure::laws::closure_lists_parts;
 use ix_cluster::Banks;
+use ix_edge::Gate;
 use ix_model::{Counts, Plan};
 use ix_subtrees::{SubSet, useful};
+use ix_workers::close;
 use std::alloc::{AllocError, Global};
+use std::sync::Wait;
+use std::thread::Threads;
 
 /// What is kept of a closure.
 #[derive(Drop)]
@@ -25,12 +28,33 @@ pub struct Closed {
     pub counts: Counts,
 }
 
-// Banks that have recorded the closure.
-fn banks_of(alloc: Global, plan: &Plan) -> Result<Banks, AllocError>
+/// Banks that have recorded the closure, by the work of one core. An error is want of memory.
+pub fn banks_alone(alloc: Global, plan: &Plan) -> Result<Banks, AllocError>
     ensures closure { IfOk result (λ banks. IsClosure plan.now (facts_of banks.banks.items)) }
     ensures few { IfOk result (λ banks. length banks.banks.items ≤ BANK_LIMIT) }
 {
     Core::begin(alloc, plan)?.finish().map_err(|_| AllocError)
+}
+
+/// Banks that have recorded the closure, by the work of 1 to 64 workers. One does it as a core: it needs no locks. An error is
+/// want of memory.
+pub fn banks_shared<R: Threads + Wait + Sync, G: Gate + Sync>(
+    rt: &R,
+    alloc: Global,
+    plan: &Plan,
+    workers: u32,
+    gate: &G,
+) -> Result<Banks, AllocError>
+    requires least { 1 ≤ workers }
+    requires most { workers ≤ 64 }
+    ensures closure { IfOk result (λ banks. IsClosure plan.now (facts_of banks.banks.items)) }
+    ensures few { IfOk result (λ banks. length banks.banks.items ≤ BANK_LIMIT) }
+{
+    if workers == 1 {
+        banks_alone(alloc, plan)
+    } else {
+        close(rt, alloc, plan, workers, gate)
+    }
 }
 
 // The useful subtrees among those that the banks have recorded.
@@ -43,16 +67,14 @@ fn set_of(alloc: Global, plan: &Plan, banks: &Banks) -> Result<SubSet, AllocErro
     useful(alloc, plan, &subs)
 }
 
-/// What is kept of the closure of the plan. An error is want of memory.
-pub fn closed_of(alloc: Global, plan: &Plan) -> Result<Closed, AllocError>
+/// What is kept of banks that have recorded the closure. An error is want of memory.
+pub fn closed_of(alloc: Global, plan: &Plan, banks: Banks) -> Result<Closed, AllocError>
+    requires closure { IsClosure plan.now (facts_of banks.banks.items) }
+    requires few { length banks.banks.items ≤ BANK_LIMIT }
     ensures set { IfOk result (λ closed. IsSetOf plan.now closed.set) }
     ensures furthest { IfOk result (λ closed. Furthest plan.now closed.furthest) }
     ensures counts { IfOk result (λ closed. AreCounts plan.now closed.counts) }
-    ensures planned { IsPlanned plan.now }
 {
-    // What holds of each plan.
-    let _ = plan.slot_count();
-    let banks = banks_of(alloc, plan)?;
     let set = set_of(alloc, plan, &banks)?;
     let counts = Counts {
         descriptors: banks.descriptors(),

@@ -1,6 +1,7 @@
-use crate::{DynFault, Outcome, ParseFault, Refusal, compile, parse_alone};
+use crate::{DynFault, Outcome, ParseFault, Refusal, compile, parse, parse_alone};
+use ix_edge::OpenGate;
 use ix_model::{Counts, State};
-use std::alloc::Global;
+use std::alloc::{AllocError, Global};
 use std::test::Fail;
 
 #[test]
@@ -94,5 +95,39 @@ fn answers_texts_or_says_why_not(rt: HostRuntime) -> Result<(), Fail> {
         panic!(rt; "the element has two attributes of one name");
     };
     assert_eq!(rt; name.as_slice(), ['x'].as_slice());
+    Ok(())
+}
+
+// So many ones with a plus sign between them.
+fn sum(alloc: Global, ones: usize) -> Result<Vec<u8>, AllocError> {
+    let mut text = Vec::from_slice(alloc, b"1")?;
+    for _ in 1..ones {
+        text.extend_from_slice(b"+1")?;
+    }
+    Ok(text)
+}
+
+// The sum of r terms that begins at a term has 3r + 1 descriptors, for r from 1 to 100. Of the useful subtrees 100 are of a
+// one, 9,900 of a front of an alternative, and one is of each choice of two terms and a plus sign between them.
+#[test]
+fn two_workers_answer_an_ambiguous_sum(rt: HostRuntime) -> Result<(), Fail> {
+    let alloc = rt.alloc();
+    let Ok(grammar) = compile(alloc, b"E: E, \"+\", E; \"1\".") else {
+        panic!(rt; "the grammar conforms");
+    };
+    let text = sum(alloc, 100)?;
+    assert!(rt;
+        matches!(
+            parse(&rt, alloc, &grammar, &text, 2, &OpenGate),
+            Ok(Outcome::Tree {
+                state: State::Ambiguous,
+                counts: Counts {
+                    descriptors: 15_250,
+                    subtrees: 176_650
+                },
+                ..
+            })
+        )
+    );
     Ok(())
 }
