@@ -7,6 +7,10 @@ use Rattle.ix_cluster.specs.declared.fact.Fact.{Fact}
 use Rattle.ix_cluster.specs.declared.fact.Fact.TheVariants as fact
 use Rattle.ix_closure.specs.declared.steps.Cluster.{Cluster}
 
+-- the cluster of the rule at the position
+abbrev pub cluster : ℕ → ℕ → Cluster
+cluster r k = record { rule = r; at = k }
+
 -- whether two clusters are the same
 abbrev pub same_cluster : Cluster → Cluster → Bool
 same_cluster a b = (a.rule == b.rule) && (a.at == b.at)

@@ -38,7 +38,8 @@ fn push_end(
 ) -> Result<(), AllocError>
     ensures { OnOk result (PushesEnd ends.old cluster end ends.new) }
 {
-    let list = ends.entry(cluster)?.or_insert(Vec::new(alloc));
+    let entry = ends.entry(cluster)?;
+    let list = entry.or_insert(Vec::new(alloc));
     list.push(end)?;
     Ok(())
 }
@@ -59,9 +60,7 @@ fn add_fact(recorded: &mut Recorded, alloc: Global, fact: Fact) -> Result<(), Al
     ensures facts { OnOk result (Adds same_fact (λ f. f ≡ fact) recorded.old.facts.keys recorded.new.facts.keys) }
     ensures ends { OnOk result (ListsEnds recorded.new.facts.keys recorded.new.ends) }
 {
-    if recorded.facts.insert(fact).is_err() {
-        return Err(AllocError);
-    }
+    recorded.facts.insert(fact)?;
     match fact {
         Fact::End { rule, at, end } => {
             push_end(&mut recorded.ends, alloc, Cluster { rule, at }, end)
@@ -145,7 +144,8 @@ fn note_arrivals(
     ensures { OnOk result (Adds same_step (Lacks recorded.now.facts.keys (IsBroughtBy plan.now recorded.now.facts.keys (fact.Edge cluster.rule cluster.at edge.slot edge.left))) missing.old.keys missing.new.keys) }
 {
     let slot = plan.next(edge.slot);
-    for end in ends_of(&recorded.ends, cluster) {
+    let ends = ends_of(&recorded.ends, cluster);
+    for end in ends {
         let sub = Sub {
             slot,
             left: edge.left,
@@ -227,7 +227,8 @@ pub(crate) fn missing_steps(
     let _ = plan.slot_count();
     let recorded = recorded_of(alloc, banks)?;
     let mut missing = IndexSet::new(alloc);
-    for fact in recorded.facts.as_slice() {
+    let facts = recorded.facts.as_slice();
+    for fact in facts {
         note_brought(&mut missing, plan, &recorded, *fact)?;
     }
     Vec::from_slice(alloc, missing.as_slice())

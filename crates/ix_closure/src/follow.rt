@@ -50,11 +50,11 @@ pub fn next_step(plan: &Plan, descriptor: Descriptor) -> Option<Owed>
             right: pos,
         })),
         Some(Sym::Term { terminal, .. }) => match matches(plan, terminal, pos) {
-            Some(end) => Some(Owed::Arrive(Sub {
+            Some(right) => Some(Owed::Arrive(Sub {
                 slot: plan.next(slot),
                 left,
                 pivot: pos,
-                right: end,
+                right,
             })),
             None => None,
         },
