@@ -67,8 +67,8 @@ module _ {A S : Type 0} where
       to : (same_cluster here c ≡ true) ⊎ (same_cluster here c ≡ false) → Contains (Written (same_cluster here c)) x → Contains more (fact.End c.rule c.at x)
       to (inl t) h =
           elim (Contains-push_cases (ends_listed old c) e x (subst (λ b. Contains (Written b) x) t h)) [
-          | inl o ↦ adds.kept (fact.End c.rule c.at x) ((lists c x).0 o)
-          | inr w ↦ adds.all (fact.End c.rule c.at x) (sym (ap (λ (z : Cluster). fact.End z.rule z.at e) (same_cluster_true here c t) ∙ ap (fact.End c.rule c.at) w))
+            | inl o ↦ adds.kept (fact.End c.rule c.at x) ((lists c x).0 o)
+            | inr w ↦ adds.all (fact.End c.rule c.at x) (sym (ap (λ (z : Cluster). fact.End z.rule z.at e) (same_cluster_true here c t) ∙ ap (fact.End c.rule c.at) w))
           ]
       to (inr f) h = adds.kept (fact.End c.rule c.at x) ((lists c x).0 (subst (λ b. Contains (Written b) x) f h))
 
