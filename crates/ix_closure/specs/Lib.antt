@@ -4,7 +4,6 @@ pub mod Balance
 pub mod Brought
 pub mod Closure
 pub mod Due
-pub mod Ends
 pub mod Events
 pub mod Examples
 pub mod Follows

@@ -1,100 +1,21 @@
 //! What banks lack: the steps that follow from their facts and are not recorded.
-ghost use Rattle.std.specs.Prelude.{◌≡◌, ◌<◌, ◌≤◌, ◌↔◌, Contains, length, OnOk, IfOk};
-ghost use Rattle.ix_cluster.specs.declared.fact.Fact.{Fact as Recordable};
+ghost use Rattle.std.specs.Prelude.{◌≡◌, ◌<◌, Contains, OnOk, IfOk};
 ghost use Rattle.ix_cluster.specs.declared.fact.Fact.TheVariants as fact;
-ghost use Rattle.ix_cluster.specs.ClosedFacts.{IsInClosed};
-ghost use Rattle.ix_cluster.specs.Facts.{same_fact};
 ghost use Rattle.ix_cluster.specs.Sound.{AreSound};
-ghost use Rattle.ix_closure.specs.Additions.{Adds};
+ghost use Rattle.ix_closure.specs.Additions.{Adds, IsOfSome};
 ghost use Rattle.ix_closure.specs.Adoption.{OwesMissing};
 ghost use Rattle.ix_closure.specs.Brought.{IsBroughtBy, Lacks};
-ghost use Rattle.ix_closure.specs.Due.{IsRecorded};
-ghost use Rattle.ix_closure.specs.Ends.{ListsEnds, PushesEnd, ends_listed};
+ghost use Rattle.ix_closure.specs.Due.{IsRecorded, FollowsIn};
 ghost use Rattle.ix_closure.specs.Follows.{fact_of};
 ghost use Rattle.ix_closure.specs.Quantity.{same_step};
-ghost use Rattle.ix_closure.specs.Ready.{HasFurther};
 
 use crate::follow::{Descriptor, next_step};
 use crate::owed::Owed;
-use crate::steps::Cluster;
-use indexmap::{IndexMap, IndexSet};
-use ix_cluster::{Bank, Banks, Edge, Fact};
+use crate::steps::{Cluster, home_for};
+use indexmap::IndexSet;
+use ix_cluster::{Bank, Banks, Edge, Fact, home};
 use ix_model::{Plan, Sub};
 use std::alloc::{AllocError, Global};
-
-// What banks have recorded, to be looked up: the facts, and the ends of each cluster.
-#[derive(Drop)]
-pub(crate) struct Recorded {
-    facts: IndexSet<Fact>,
-    ends: IndexMap<Cluster, Vec<u32>>,
-}
-
-// Adds the end to those of the cluster.
-fn push_end(
-    ends: &mut IndexMap<Cluster, Vec<u32>>,
-    alloc: Global,
-    cluster: Cluster,
-    end: u32,
-) -> Result<(), AllocError>
-    ensures { OnOk result (PushesEnd ends.old cluster end ends.new) }
-{
-    let entry = ends.entry(cluster)?;
-    let list = entry.or_insert(Vec::new(alloc));
-    list.push(end)?;
-    Ok(())
-}
-
-// The ends of the cluster.
-fn ends_of(ends: &IndexMap<Cluster, Vec<u32>>, cluster: Cluster) -> &[u32]
-    ensures { result.now ≡ ends_listed ends.now cluster }
-{
-    match ends.get(&cluster) {
-        Some(list) => list.as_slice(),
-        None => &[],
-    }
-}
-
-// Adds the fact.
-fn add_fact(recorded: &mut Recorded, alloc: Global, fact: Fact) -> Result<(), AllocError>
-    requires ends { ListsEnds recorded.old.facts.keys recorded.old.ends }
-    ensures facts { OnOk result (Adds same_fact (λ f. f ≡ fact) recorded.old.facts.keys recorded.new.facts.keys) }
-    ensures ends { OnOk result (ListsEnds recorded.new.facts.keys recorded.new.ends) }
-{
-    recorded.facts.insert(fact)?;
-    match fact {
-        Fact::End { rule, at, end } => {
-            push_end(&mut recorded.ends, alloc, Cluster { rule, at }, end)
-        }
-        _ => Ok(()),
-    }
-}
-
-// Adds the facts of the bank.
-fn add_facts(recorded: &mut Recorded, alloc: Global, bank: &Bank) -> Result<(), AllocError>
-    requires ends { ListsEnds recorded.old.facts.keys recorded.old.ends }
-    ensures facts { OnOk result (Adds same_fact (Contains bank.now.log) recorded.old.facts.keys recorded.new.facts.keys) }
-    ensures ends { OnOk result (ListsEnds recorded.new.facts.keys recorded.new.ends) }
-{
-    for n in 0..bank.fact_count() {
-        add_fact(recorded, alloc, bank.fact(n))?;
-    }
-    Ok(())
-}
-
-// What the banks have recorded, bank by bank, in the order of each log.
-fn recorded_of(alloc: Global, banks: &Banks) -> Result<Recorded, AllocError>
-    ensures facts { IfOk result (λ recorded. (f : Recordable) → Contains recorded.facts.keys f ↔ IsRecorded banks.now.banks.items f) }
-    ensures ends { IfOk result (λ recorded. ListsEnds recorded.facts.keys recorded.ends) }
-{
-    let mut recorded = Recorded {
-        facts: IndexSet::new(alloc),
-        ends: IndexMap::new(alloc),
-    };
-    for bank in &banks.banks {
-        add_facts(&mut recorded, alloc, bank)?;
-    }
-    Ok(recorded)
-}
 
 // The fact that the step is to record.
 fn fact_of(step: Owed) -> Fact
@@ -119,10 +40,21 @@ fn fact_of(step: Owed) -> Fact
 }
 
 // Notes the step, where its fact is not recorded.
-fn note(missing: &mut IndexSet<Owed>, recorded: &Recorded, step: Owed) -> Result<(), AllocError>
-    ensures { OnOk result (Adds same_step (Lacks recorded.now.facts.keys (λ x. x ≡ step)) missing.old.keys missing.new.keys) }
+fn note(
+    missing: &mut IndexSet<Owed>,
+    plan: &Plan,
+    banks: &Banks,
+    step: Owed,
+) -> Result<(), AllocError>
+    requires sound { AreSound plan.now banks.now.banks.items }
+    requires follows { FollowsIn plan.now banks.now.banks.items step }
+    ensures { OnOk result (Adds same_step (Lacks banks.now.banks.items (λ x. x ≡ step)) missing.old.keys missing.new.keys) }
 {
-    if recorded.facts.contains(&fact_of(step)) {
+    // What holds of each plan: a place has one slot.
+    let _ = plan.slot_count();
+    // Whatever bank has the fact, it is this one.
+    let m = home_for(plan, banks.count(), step);
+    if banks.bank(m).has(fact_of(step)) {
         return Ok(());
     }
     match missing.insert(step) {
@@ -135,16 +67,19 @@ fn note(missing: &mut IndexSet<Owed>, recorded: &Recorded, step: Owed) -> Result
 fn note_arrivals(
     missing: &mut IndexSet<Owed>,
     plan: &Plan,
-    recorded: &Recorded,
+    banks: &Banks,
     cluster: Cluster,
     edge: Edge,
 ) -> Result<(), AllocError>
-    requires ends { ListsEnds recorded.now.facts.keys recorded.now.ends }
-    requires further { HasFurther plan.now edge.slot }
-    ensures { OnOk result (Adds same_step (Lacks recorded.now.facts.keys (IsBroughtBy plan.now recorded.now.facts.keys (fact.Edge cluster.rule cluster.at edge.slot edge.left))) missing.old.keys missing.new.keys) }
+    requires sound { AreSound plan.now banks.now.banks.items }
+    requires edge { IsRecorded banks.now.banks.items (fact.Edge cluster.rule cluster.at edge.slot edge.left) }
+    ensures { OnOk result (Adds same_step (Lacks banks.now.banks.items (IsBroughtBy plan.now banks.now.banks.items (fact.Edge cluster.rule cluster.at edge.slot edge.left))) missing.old.keys missing.new.keys) }
 {
+    // What holds of each plan: a place has one slot.
+    let _ = plan.slot_count();
     let slot = plan.next(edge.slot);
-    let ends = ends_of(&recorded.ends, cluster);
+    let m = home(cluster.rule, cluster.at, banks.count());
+    let ends = banks.bank(m).ends(cluster.rule, cluster.at);
     for end in ends {
         let sub = Sub {
             slot,
@@ -152,7 +87,7 @@ fn note_arrivals(
             pivot: cluster.at,
             right: *end,
         };
-        note(missing, recorded, Owed::Arrive(sub))?;
+        note(missing, plan, banks, Owed::Arrive(sub))?;
     }
     Ok(())
 }
@@ -161,17 +96,17 @@ fn note_arrivals(
 fn note_next(
     missing: &mut IndexSet<Owed>,
     plan: &Plan,
-    recorded: &Recorded,
+    banks: &Banks,
     descriptor: Descriptor,
 ) -> Result<(), AllocError>
-    requires slot { descriptor.slot < length plan.now.slots }
-    requires pos { descriptor.pos ≤ length plan.now.text }
-    ensures { OnOk result (Adds same_step (Lacks recorded.now.facts.keys (IsBroughtBy plan.now recorded.now.facts.keys (fact.Claim descriptor.slot descriptor.left descriptor.pos))) missing.old.keys missing.new.keys) }
+    requires sound { AreSound plan.now banks.now.banks.items }
+    requires claim { IsRecorded banks.now.banks.items (fact.Claim descriptor.slot descriptor.left descriptor.pos) }
+    ensures { OnOk result (Adds same_step (Lacks banks.now.banks.items (IsBroughtBy plan.now banks.now.banks.items (fact.Claim descriptor.slot descriptor.left descriptor.pos))) missing.old.keys missing.new.keys) }
 {
     // What holds of each plan: a place has one slot.
     let _ = plan.slot_count();
     match next_step(plan, descriptor) {
-        Some(step) => note(missing, recorded, step),
+        Some(step) => note(missing, plan, banks, step),
         None => Ok(()),
     }
 }
@@ -180,19 +115,19 @@ fn note_next(
 fn note_brought(
     missing: &mut IndexSet<Owed>,
     plan: &Plan,
-    recorded: &Recorded,
+    banks: &Banks,
     fact: Fact,
 ) -> Result<(), AllocError>
-    requires ends { ListsEnds recorded.now.facts.keys recorded.now.ends }
-    requires closed { IsInClosed plan.now fact }
-    ensures { OnOk result (Adds same_step (Lacks recorded.now.facts.keys (IsBroughtBy plan.now recorded.now.facts.keys fact)) missing.old.keys missing.new.keys) }
+    requires sound { AreSound plan.now banks.now.banks.items }
+    requires recorded { IsRecorded banks.now.banks.items fact }
+    ensures { OnOk result (Adds same_step (Lacks banks.now.banks.items (IsBroughtBy plan.now banks.now.banks.items fact)) missing.old.keys missing.new.keys) }
 {
-    // What holds of each plan: a place has one slot.
-    let _ = plan.slot_count();
     match fact {
-        Fact::Desc { slot, left, pos } => note(missing, recorded, Owed::Claim { slot, left, pos }),
+        Fact::Desc { slot, left, pos } => {
+            note(missing, plan, banks, Owed::Claim { slot, left, pos })
+        }
         Fact::Claim { slot, left, pos } => {
-            note_next(missing, plan, recorded, Descriptor { slot, left, pos })
+            note_next(missing, plan, banks, Descriptor { slot, left, pos })
         }
         Fact::Edge {
             rule,
@@ -202,7 +137,7 @@ fn note_brought(
         } => note_arrivals(
             missing,
             plan,
-            recorded,
+            banks,
             Cluster { rule, at },
             Edge { slot, left },
         ),
@@ -212,7 +147,24 @@ fn note_brought(
     }
 }
 
-// The steps that the banks lack, each once, by the facts in the order of their logs.
+// Notes the steps that the facts of the bank, one of the banks, bring and that are not recorded.
+fn note_bank(
+    missing: &mut IndexSet<Owed>,
+    plan: &Plan,
+    banks: &Banks,
+    bank: &Bank,
+) -> Result<(), AllocError>
+    requires sound { AreSound plan.now banks.now.banks.items }
+    requires among { Contains banks.now.banks.items bank.now }
+    ensures { OnOk result (Adds same_step (IsOfSome bank.now.log (λ f. Lacks banks.now.banks.items (IsBroughtBy plan.now banks.now.banks.items f))) missing.old.keys missing.new.keys) }
+{
+    for n in 0..bank.fact_count() {
+        note_brought(missing, plan, banks, bank.fact(n))?;
+    }
+    Ok(())
+}
+
+// The steps that the banks lack, each once, bank by bank, by the facts in the order of its log.
 //
 // An error is want of memory.
 pub(crate) fn missing_steps(
@@ -225,11 +177,9 @@ pub(crate) fn missing_steps(
 {
     // What holds of each plan: a place has one slot.
     let _ = plan.slot_count();
-    let recorded = recorded_of(alloc, banks)?;
     let mut missing = IndexSet::new(alloc);
-    let facts = recorded.facts.as_slice();
-    for fact in facts {
-        note_brought(&mut missing, plan, &recorded, *fact)?;
+    for bank in &banks.banks {
+        note_bank(&mut missing, plan, banks, bank)?;
     }
     Vec::from_slice(alloc, missing.as_slice())
 }

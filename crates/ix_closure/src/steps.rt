@@ -36,7 +36,7 @@ pub(crate) fn home_for(plan: &Plan, count: u32, step: Owed) -> u32
 }
 
 // A rule, and where it was called.
-#[derive(Clone, Copy, Debug, PartialEq, Eq, Hash)]
+#[derive(Clone, Copy)]
 pub(crate) struct Cluster {
     pub(crate) rule: u32,
     pub(crate) at: u32,

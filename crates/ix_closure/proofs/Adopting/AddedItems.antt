@@ -7,15 +7,11 @@ use Rattle.std.proofs.lemmas.Map.Keys.{IsDistinct-push}
 use Rattle.std.proofs.lemmas.Map.Views.{Contains-from_any}
 use Rattle.std.proofs.lemmas.Option.{slice_get_within}
 use Rattle.indexmap.specs.IndexSet.{insert_key}
-use Rattle.ix_cluster.specs.declared.fact.Fact.{Fact}
-use Rattle.ix_cluster.specs.contracts.fact.FactPartialEq.TheImpl as of_facts
-use Rattle.ix_cluster.specs.Facts.{same_fact}
 use Rattle.ix_cluster.proofs.Equivalences.{equivalence}
-use Rattle.ix_cluster.proofs.FactLemmas.{eq-same_fact, same_fact-true, same_fact-refl}
 use Rattle.ix_cluster.proofs.Members.{nth_has}
 use Rattle.ix_closure.specs.declared.owed.Owed.{Owed}
 use Rattle.ix_closure.specs.declared.owed.Owed.TheVariants.{Claim, Edge, End, Arrive}
-use Rattle.ix_closure.specs.contracts.owed.OwedPartialEq.TheImpl as of_steps
+use Rattle.ix_closure.specs.contracts.owed.OwedPartialEq.TheImpl.{eq-value}
 use Rattle.ix_closure.specs.Additions.{Adds, IsOfSome, IsOfFirst}
 use Rattle.ix_closure.specs.Quantity.{same_step}
 use Rattle.ix_closure.proofs.Lists.ListMembers.{place_in}
@@ -108,18 +104,15 @@ module _ {X : Type 0} (same : X → X → Bool) where
         (λ x h. (h.1, nth_has list h.0 h.1 h.3, h.4))
         (λ x h. let p = place_in list h.0 h.1 in (p.0, h.0, subst (λ k. p.0 < k) len (slice_get_within list p.0 h.0 p.1), p.1, h.2))
 
--- ---- facts and steps
-
-pub adds_fact : (old new : List Fact) (f : Fact) → new ≡ insert_key of_facts.eq-value.it old f → Adds same_fact (λ g. g ≡ f) old new
-adds_fact old new f = adds_inserted same_fact same_fact-true same_fact-refl of_facts.eq-value.it eq-same_fact old new f
+-- ---- steps
 
 -- the program's test of steps is that of specs/
-eq_step : (a b : Owed) → of_steps.eq-value.it a b ≡ same_step a b
+eq_step : (a b : Owed) → eq-value.it a b ≡ same_step a b
 eq_step (Claim s l p) (Claim s' l' p') = refl
 eq_step (Edge r k s l) (Edge r' k' s' l') = refl
 eq_step (End r k e) (End r' k' e') = refl
 eq_step (Arrive a) (Arrive b) = refl
 eq_step a b = refl
 
-pub adds_step : (old new : List Owed) (step : Owed) → new ≡ insert_key of_steps.eq-value.it old step → Adds same_step (λ x. x ≡ step) old new
-adds_step old new step = adds_inserted same_step same_step_true same_step_refl of_steps.eq-value.it eq_step old new step
+pub adds_step : (old new : List Owed) (step : Owed) → new ≡ insert_key eq-value.it old step → Adds same_step (λ x. x ≡ step) old new
+adds_step old new step = adds_inserted same_step same_step_true same_step_refl eq-value.it eq_step old new step
