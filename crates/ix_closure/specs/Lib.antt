@@ -1,4 +1,7 @@
+pub mod Additions
+pub mod Adoption
 pub mod Balance
+pub mod Brought
 pub mod Closure
 pub mod Due
 pub mod Events

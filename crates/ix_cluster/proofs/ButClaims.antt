@@ -11,6 +11,11 @@ use Rattle.ix_cluster.specs.Facts.{has, same_fact}
 use Rattle.ix_cluster.specs.LogPlaces.{is_no_claim}
 use Rattle.ix_cluster.proofs.CountBy.{count_cons}
 
+-- a fact that is not of the shape of a claim is none
+pub not_claim : (f : Fact) → ((s l p : ℕ) → f ≡ Claim s l p → ⊥) → is_no_claim f ≡ true
+not_claim (Claim s l p) h = absurd (h s l p refl)
+not_claim f h = refl
+
 no_claim-apart : (f g : Fact) → is_no_claim f ≡ true → is_no_claim g ≡ false → same_fact f g ≡ false
 no_claim-apart (Called r k) (Claim s l p) hf hg = refl
 no_claim-apart (Edge r k s' l') (Claim s l p) hf hg = refl

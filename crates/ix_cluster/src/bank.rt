@@ -184,6 +184,13 @@ impl Bank {
         self.log.is_claimed(slot, left, pos)
     }
 
+    /// Whether the fact is recorded.
+    pub fn has(&self, fact: Fact) -> bool
+        ensures { result ≡ has self.now.log fact }
+    {
+        self.log.has(fact)
+    }
+
     /// How many edges the cluster has, 0 where it is not there.
     pub fn edge_count(&self, rule: u32, at: u32) -> u64
         ensures { result ≡ length (edges_in self.now.log (cluster rule at)) }
@@ -195,7 +202,14 @@ impl Bank {
     pub fn end_count(&self, rule: u32, at: u32) -> u64
         ensures { result ≡ length (ends_in self.now.log (cluster rule at)) }
     {
-        list_of(&self.ends, Cluster { rule, at }).len() as u64
+        self.ends(rule, at).len() as u64
+    }
+
+    /// The ends of the cluster in the order in which they came, none where it is not there.
+    pub fn ends(&self, rule: u32, at: u32) -> &[u32]
+        ensures { result.now ≡ ends_in self.now.log (cluster rule at) }
+    {
+        list_of(&self.ends, Cluster { rule, at })
     }
 
     /// Claims the descriptor, and says whose it is: `Unknown` exactly where the bank has no such descriptor, `Taken`

@@ -146,6 +146,16 @@ impl Log {
         }
     }
 
+    // Whether the fact is recorded. A claim is a mark, and stands in no set.
+    pub(crate) fn has(&self, fact: Fact) -> bool
+        ensures { result ≡ has self.now.facts fact }
+    {
+        match fact {
+            Fact::Claim { slot, left, pos } => self.is_claimed(slot, left, pos),
+            other => self.facts.contains(&other),
+        }
+    }
+
     // Makes room for so many more facts, a descriptor counting twice. It leaves the facts as they are.
     pub(crate) fn reserve(&mut self, more: u64) -> Result<(), AllocError>
         requires { more < 2 ^ 60 }

@@ -90,6 +90,14 @@ fn steps_of_a_bank_answer_once(rt: HostRuntime) -> Result<(), Fail> {
     assert_eq!(rt; (opened.first, opened.ends.len()), (true, 0));
     assert_eq!(rt; (bank.edge_count(0, 0), bank.end_count(0, 0)), (1, 1));
     assert_eq!(rt; (bank.edge_count(0, 1), bank.end_count(0, 1)), (1, 0));
+    assert_eq!(rt; bank.ends(0, 0), [1].as_slice());
+    assert_eq!(rt;
+        (
+            bank.has(Fact::Part(BY_FIRST)),
+            bank.has(Fact::Called { rule: 0, at: 2 })
+        ),
+        (true, false)
+    );
     assert_eq!(rt;
         facts_of(alloc, &bank)?.as_slice(),
         [
