@@ -1,3 +1,4 @@
 pub mod Done
 pub mod Owing
 pub mod Taking
+pub mod Team

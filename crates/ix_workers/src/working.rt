@@ -5,10 +5,12 @@ ghost use Rattle.ix_cluster.specs.Banks.{facts_of};
 ghost use Rattle.ix_cluster.specs.declared.limits.TheConstants.{BANK_LIMIT};
 ghost use Rattle.ix_cluster.specs.Sound.{AreSound};
 
+use crate::team::{is_short, join_all, new_team, run_team};
 use ix_closure::Core;
 use ix_cluster::Banks;
 use ix_edge::Gate;
 use ix_model::Plan;
+use ix_table::Table;
 use std::alloc::{AllocError, Global};
 use std::sync::Wait;
 use std::thread::Threads;
@@ -43,8 +45,15 @@ pub fn work<R: Threads + Wait + Sync, G: Gate + Sync>(
     ensures sound { IfOk result (λ worked. AreSound plan.now worked.banks.banks.items) }
     ensures many { IfOk result (λ worked. length worked.banks.banks.items ≡ 64) }
 {
-    let _ = (rt, alloc, plan, workers, gate);
-    Err(AllocError)
+    let (table, mut root) = Table::new(alloc, plan)?;
+    let team = new_team(alloc, plan, &table, &mut root, workers)?;
+    let done = run_team(rt, plan, &table, gate, team)?;
+    let short = is_short(done.as_slice());
+    join_all(&table, &mut root, done);
+    match table.close(alloc, root) {
+        Ok(banks) => Ok(Worked { banks, short }),
+        Err(_) => Err(AllocError),
+    }
 }
 
 /// Banks that have recorded exactly the closure of the plan: those that so many workers leave, with all that is missing

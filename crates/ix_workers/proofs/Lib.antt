@@ -1,0 +1,4 @@
+pub mod Doing
+pub mod DoneSteps
+pub mod MoreClosed
+pub mod Starting
