@@ -20,7 +20,7 @@ use Rattle.ix_cluster.proofs.Members.{none_has}
 use Rattle.ix_cluster.proofs.StepCases.{step_is}
 use Rattle.ix_closure.specs.declared.owed.Owed.{Owed}
 use Rattle.ix_closure.specs.declared.owed.Owed.TheVariants as step
-use Rattle.ix_closure.specs.Follows.{FollowsClaim, arrival, claims_at, fact_of, fresh_claim, met_edges, met_ends, opened}
+use Rattle.ix_closure.specs.Follows.{FollowsClaim, arrival, claims_at, fresh_claim}
 use Rattle.ix_closure.specs.Ready.{HasFurther}
 use Rattle.ix_closure.proofs.Due.Readiness.{step_ready}
 use Rattle.ix_table.specs.Sights.{Sight}
@@ -50,13 +50,19 @@ module _ (plan : Parts) (old new : Sight) (rest owed : List Owed) where
       let is : edges ≡ end_answer made.met.log r k e = cc in
       record { answer = Meets edges; made = made; more = map (arrival k e) edges; follows = ap (map (arrival k e)) is; now = now }
 
-  pub edge_done : (r k s l : ℕ) (first : Bool) (ends : List ℕ) (more : List Owed) → IsStep plan old (AddEdge r k s l) (Opens first ends) new
-      → ((f' : Bool) (es' : List ℕ) → first ≡ f' → ends ≡ es' → more ≡ (cond f' (claims_at k (firsts_of plan r)) [] ++ map (λ e. arrival k e (record { slot = s; left = l })) es')) → owed ≡ rest ++ more → IsDone plan old (step.Edge r k s l) rest new owed
-  edge_done r k s l first ends more made follows now =
+  pub edge_done : (r k s l : ℕ) (first : Bool) (ends : List ℕ) → IsStep plan old (AddEdge r k s l) (Opens first ends) new
+      → owed ≡ rest ++ (cond first (claims_at k (firsts_of plan r)) [] ++ map (λ e. arrival k e (record { slot = s; left = l })) ends) → IsDone plan old (step.Edge r k s l) rest new owed
+  edge_done r k s l first ends made now =
       let told = (step_is plan made.met.log (AddEdge r k s l) (Opens first ends) made.left.log made.step).0 in
       let f : first ≡ edge_is_first made.met.log r k s l = cc in
       let e : ends ≡ edge_answer made.met.log r k s l = cc in
-      record { answer = Opens first ends; made = made; more = more; follows = follows (edge_is_first made.met.log r k s l) (edge_answer made.met.log r k s l) f e; now = now }
+      record {
+        answer = Opens first ends;
+        made = made;
+        more = cond first (claims_at k (firsts_of plan r)) [] ++ map (λ e. arrival k e (record { slot = s; left = l })) ends;
+        follows = λ i. cond (f i) (claims_at k (firsts_of plan r)) [] ++ map (λ e. arrival k e (record { slot = s; left = l })) (e i);
+        now = now;
+      }
 
 -- ---- what the calls for what follows ask
 
@@ -72,8 +78,8 @@ module _ (plan : Parts) (planned : IsPlanned plan) where
   edge_further r k s l h = let w = step_ready plan planned [] (λ f i. absurd (none_has f i)) (step.Edge r k s l) h in (w.0, ap is_some w.2.1)
 
   -- the edges that an end meets have symbols behind their dots
-  pub met_further : (old new : Sight) (r k e : ℕ) (edges : List Arc) → IsInClosed plan (fact.End r k e) → IsStep plan old (AddEnd r k e) (Meets edges) new → All (λ (edge : Arc). HasFurther plan edge.slot) edges
-  met_further old new r k e edges h made =
+  pub met_further : (old new : Sight) (r k e : ℕ) (edges read : List Arc) → IsInClosed plan (fact.End r k e) → IsStep plan old (AddEnd r k e) (Meets edges) new → read ≡ edges → All (λ (edge : Arc). HasFurther plan edge.slot) read
+  met_further old new r k e edges read h made same =
       let told = (step_is plan made.met.log (AddEnd r k e) (Meets edges) made.left.log made.step).0 in
       let is : edges ≡ end_answer made.met.log r k e = cc in
-      subst (All (λ (edge : Arc). HasFurther plan edge.slot)) (sym is) (step_ready plan planned made.met.log made.sound_met.true_facts.closed (step.End r k e) h)
+      subst (All (λ (edge : Arc). HasFurther plan edge.slot)) (sym (same ∙ is)) (step_ready plan planned made.met.log made.sound_met.true_facts.closed (step.End r k e) h)

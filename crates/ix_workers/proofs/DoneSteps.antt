@@ -43,7 +43,7 @@ module _ (plan : Parts) (planned : IsPlanned plan) (old : Sight) (owed : List Ow
   pub one_step : Works plan old owed new owed'
   one_step = goes_on old owed step rest new owed' begins taken done
 
--- and so on
-pub works_on : (plan : Parts) (a b c : Sight) (xs ys zs : List Owed) → Works plan a xs b ys → Works plan b ys c zs → Works plan a xs c zs
-works_on plan a b c xs ys zs first begins = first
-works_on plan a b c xs ys zs first (goes_on old owed step rest new owed' before taken done) = goes_on old owed step rest new owed' (works_on plan a b old xs ys owed first before) taken done
+-- what was done goes on with what is done behind it
+pub works_on : (plan : Parts) (a b : Sight) (xs ys : List Owed) → Works plan a xs b ys → (c : Sight) (zs : List Owed) → Works plan b ys c zs → Works plan a xs c zs
+works_on plan a b xs ys first c zs begins = first
+works_on plan a b xs ys first c zs (goes_on old owed step rest new owed' before taken done) = goes_on old owed step rest new owed' (works_on plan a b xs ys first old owed before) taken done

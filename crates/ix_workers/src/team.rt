@@ -1,5 +1,5 @@
 //! The workers of one table: how they begin, and how their passes come back.
-ghost use Rattle.std.specs.Prelude.{◌≡◌, ◌≤◌, ℕ, vec_len, IfOk, Some, slice_get};
+ghost use Rattle.std.specs.Prelude.{◌≡◌, ◌≤◌, ℕ, vec_len, IfOk, OnOk, Some, slice_get};
 ghost use Rattle.std.specs.List.{list_any};
 ghost use Rattle.ix_rows.specs.Passes.{IsRoot, IsWhole};
 ghost use Rattle.ix_rows.specs.Views.{left_of};
@@ -73,9 +73,9 @@ pub(crate) fn new_team(
     requires least { 1 ≤ count }
     requires most { count ≤ 64 }
     requires root { PassFits table.now root.old × IsRoot root.old × IsWhole root.old }
-    ensures root { PassFits table.now root.new × IsRoot root.new }
-    ensures begun { root.new.me.0.begun ≡ root.old.me.0.begun }
-    ensures sight { sight_of root.new ≡ sight_of root.old }
+    ensures root { OnOk result (PassFits table.now root.new × IsRoot root.new) }
+    ensures begun { OnOk result (root.new.me.0.begun ≡ root.old.me.0.begun) }
+    ensures sight { OnOk result (sight_of root.new ≡ sight_of root.old) }
     ensures many { IfOk result (λ team. vec_len team ≡ count) }
     ensures out { IfOk result (λ team. root.new.me.0.out ≡ vec_len team) }
     ensures each { IfOk result (λ team. EachAt (IsNew plan.now table.now root.old.me.0.known) team.items) }

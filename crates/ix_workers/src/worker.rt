@@ -43,12 +43,9 @@ pub struct Finished {
 }
 
 // Passes the gate, and counts one more claim.
-fn pass_gate<G: Gate>(gate: &G, worker: &mut Worker)
-    ensures pass { worker.new.pass ≡ worker.old.pass }
-    ensures owed { worker.new.owed ≡ worker.old.owed }
-{
-    gate.reach(worker.number, worker.claims);
-    worker.claims = worker.claims.saturating_add(1);
+fn pass_gate<G: Gate>(gate: &G, number: u32, claims: &mut u64) {
+    gate.reach(number, *claims);
+    *claims = claims.saturating_add(1);
 }
 
 // Does a step that was taken out of the list, and offers a hint for each new descriptor: those whose claims follow.
@@ -67,7 +64,7 @@ fn do_owed<R: Wait, G: Gate>(
     ensures done { OnOk result (IsDone plan.now (sight_of worker.old.pass) step worker.old.owed.items (sight_of worker.new.pass) worker.new.owed.items) }
 {
     if let Owed::Claim { .. } = step {
-        pass_gate(gate, worker);
+        pass_gate(gate, worker.number, &mut worker.claims);
     }
     let rest = worker.owed.len();
     do_step(rt, table, plan, &mut worker.pass, &mut worker.owed, step)?;
@@ -95,7 +92,7 @@ fn do_hint<R: Wait, G: Gate>(
     if plan.slot_count() <= slot {
         return Ok(());
     }
-    pass_gate(gate, worker);
+    pass_gate(gate, worker.number, &mut worker.claims);
     let descriptor = Descriptor { slot, left, pos };
     do_claim(
         rt,
