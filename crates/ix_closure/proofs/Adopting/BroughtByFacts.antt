@@ -1,5 +1,5 @@
 -- What facts bring is what follows from them.
-use Rattle.std.proofs.Common.{◌≡◌, ℕ, ◌+◌, ◌<◌, ◌≤◌, List, [], ◌∷◌, length, Contains, true, false, true≢false, refl, sym, ap, ◌∙◌, subst}
+use Rattle.std.proofs.Common.{◌≡◌, ℕ, ◌+◌, List, [], ◌∷◌, Contains, true, false, true≢false, refl, sym, ap, ◌∙◌, subst}
 use Rattle.ix_model.specs.Closure.Useful.{sub_at}
 use Rattle.ix_model.specs.declared.rules.Sym.TheVariants as sy
 use Rattle.ix_model.specs.Expansion.Parts.{Parts}

@@ -1,5 +1,4 @@
 use Rattle.std.proofs.Common.{◌≡◌, Contains, length, sym, subst, refl, arith}
-use Rattle.ix_cluster.specs.declared.fact.Fact.{Fact}
 use Rattle.ix_cluster.specs.Facts.{same_fact}
 use Rattle.ix_closure.specs.Additions.{IsOfSome}
 use Rattle.ix_closure.proofs.Adopting.AddedItems.{adds_next, adds_last, adds_same}

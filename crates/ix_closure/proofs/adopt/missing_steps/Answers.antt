@@ -1,31 +1,27 @@
-use Rattle.std.proofs.Common.{◌≡◌, ◌<◌, ◌∙◌, List, [], Some, slice_get, length, sym, subst, refl, arith}
-use Rattle.std.proofs.lemmas.Option.{slice_get_read}
+use Rattle.std.proofs.Common.{◌≡◌, ◌<◌, ◌∙◌, List, [], length, sym, subst, arith}
+use Rattle.std.proofs.lemmas.Option.{slice_get-get_or}
 use Rattle.std.proofs.lemmas.Result.{IfOk-weaker}
 use Rattle.ix_cluster.specs.declared.fact.Fact.{Fact}
-use Rattle.ix_cluster.proofs.Members.{nth_has}
 use Rattle.ix_closure.specs.declared.owed.Owed.{Owed}
 use Rattle.ix_closure.specs.Additions.{Adds, IsOfSome}
 use Rattle.ix_closure.specs.Adoption.{OwesMissing}
 use Rattle.ix_closure.specs.Brought.{IsBroughtBy, Lacks}
 use Rattle.ix_closure.specs.Quantity.{same_step}
-use Rattle.ix_closure.proofs.Adopting.AddedItems.{adds_next, adds_last}
-use Rattle.ix_closure.proofs.Adopting.MissingSteps.{facts_closed, owes_missing}
+use Rattle.ix_closure.proofs.Adopting.AddedItems.{adds_last}
+use Rattle.ix_closure.proofs.Adopting.MissingSteps.{nth_closed, adds_brought, owes_missing}
 use Rattle.ix_closure.proofs.adopt.missing_steps.Goals as goal
 
 pub note_brought-requires-clause-closed : goal.note_brought-requires-clause-closed
 note_brought-requires-clause-closed c =
     let within : c.loop-fact.fact-index < length c.as_slice-facts.result.now = omega (arith, c.loop-fact-test.true) in
-    let at : slice_get c.as_slice-facts.result.now c.loop-fact.fact-index ≡ Some c.fact-item.result = slice_get_read c.as_slice-facts.result.now (length c.as_slice-facts.result.now) c.loop-fact.fact-index c.fact-item.result refl within c.fact-item.is in
-    facts_closed c.args.plan.now c.slot_count.ensures.planned c.args.banks.now.banks.items c.requires.sound c.in_ok-recorded.recorded.facts.keys c.in_ok-recorded.ensures.facts c.fact-item.result
-    (nth_has c.in_ok-recorded.recorded.facts.keys c.loop-fact.fact-index c.fact-item.result (subst (λ (keys : List Fact). slice_get keys c.loop-fact.fact-index ≡ Some c.fact-item.result) c.as_slice-facts.ensures.keys at))
+    nth_closed c.args.plan.now c.slot_count.ensures.planned c.args.banks.now.banks.items c.requires.sound c.in_ok-recorded.recorded.facts.keys c.in_ok-recorded.ensures.facts c.as_slice-facts.result.now c.as_slice-facts.ensures.keys
+    c.loop-fact.fact-index _ (slice_get-get_or c.as_slice-facts.result.now c.loop-fact.fact-index _ within)
 
 pub loop-fact-preserved : goal.loop-fact-preserved
 loop-fact-preserved c =
     let within : c.loop-fact.fact-index < length c.as_slice-facts.result.now = omega (arith, c.loop-fact-test.true) in
-    let at : slice_get c.as_slice-facts.result.now c.loop-fact.fact-index ≡ Some c.fact-item.result = slice_get_read c.as_slice-facts.result.now (length c.as_slice-facts.result.now) c.loop-fact.fact-index c.fact-item.result refl within c.fact-item.is in
-    adds_next same_step c.as_slice-facts.result.now (λ f. Lacks c.as_slice-facts.result.now (IsBroughtBy c.args.plan.now c.as_slice-facts.result.now f)) c.loop-fact.fact-index c.fact-item.result [] c.loop-fact.missing.keys c.note_brought.new.missing.keys
-    at c.loop-fact.invariant
-    (subst (λ (keys : List Fact). Adds same_step (Lacks keys (IsBroughtBy c.args.plan.now keys c.fact-item.result)) c.loop-fact.missing.keys c.note_brought.new.missing.keys) (sym c.as_slice-facts.ensures.keys) c.in_ok-note_brought.ensures)
+    adds_brought c.args.plan.now c.slot_count.ensures.planned c.args.banks.now.banks.items c.requires.sound c.in_ok-recorded.recorded.facts.keys c.in_ok-recorded.ensures.facts c.as_slice-facts.result.now c.as_slice-facts.ensures.keys
+    c.loop-fact.fact-index _ c.loop-fact.missing.keys c.note_brought.new.missing.keys (slice_get-get_or c.as_slice-facts.result.now c.loop-fact.fact-index _ within) c.loop-fact.invariant c.in_ok-note_brought.ensures
 
 pub returns : goal.returns
 returns c =

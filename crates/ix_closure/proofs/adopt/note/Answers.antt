@@ -1,10 +1,6 @@
-use Rattle.std.proofs.Common.{◌≡◌, ◌∙◌, true, false, sym, ap}
-use Rattle.std.specs.List.{list_any}
-use Rattle.ix_cluster.specs.declared.fact.Fact.{Fact}
-use Rattle.ix_cluster.specs.contracts.fact.FactPartialEq.TheImpl.{eq-value}
+use Rattle.std.proofs.Common.{◌∙◌, sym, ap}
 use Rattle.ix_cluster.specs.Facts.{has}
 use Rattle.ix_cluster.proofs.FactLemmas.{any-has}
-use Rattle.ix_closure.specs.Follows.{fact_of}
 use Rattle.ix_closure.proofs.Adopting.AddedItems.{adds_step}
 use Rattle.ix_closure.proofs.Adopting.BroughtByFacts.{adds_recorded, adds_lacking}
 use Rattle.ix_closure.proofs.adopt.note.Goals as goal

@@ -5,7 +5,6 @@ use Rattle.ix_cluster.specs.declared.fact.Fact.TheVariants as fact
 use Rattle.ix_closure.specs.declared.owed.Owed.TheVariants.{Arrive}
 use Rattle.ix_closure.specs.Additions.{Adds}
 use Rattle.ix_closure.specs.Brought.{Lacks}
-use Rattle.ix_closure.specs.Ends.{ends_listed}
 use Rattle.ix_closure.specs.Follows.{arrival}
 use Rattle.ix_closure.specs.Quantity.{same_step}
 use Rattle.ix_closure.proofs.Adopting.AddedItems.{adds_next, adds_last}
