@@ -1,3 +1,4 @@
+pub mod Adopting
 pub mod Balancing
 pub mod Closing
 pub mod Due

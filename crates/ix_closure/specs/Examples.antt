@@ -1,12 +1,19 @@
 -- Small states of the core, of which the worked examples speak.
+use denote.RawPtr.{null_ptr}
 use Rattle.std.specs.Prelude.{ℕ, List, [], ◌∷◌, ◌++◌}
+use Rattle.std.specs.declared.vec.Vec.{Vec}
+use Rattle.std.proofs.Common.{refl, lit<, lit≤}
+use Rattle.indexmap.specs.IndexMap.{IndexMap}
+use Rattle.indexmap.specs.Layout.{hash_map}
 use Rattle.ix_model.specs.Closure.Useful.{sub_at}
 use Rattle.ix_model.specs.Expansion.Parts.{Parts}
 use Rattle.ix_cluster.specs.declared.fact.Fact.{Fact}
 use Rattle.ix_cluster.specs.declared.fact.Fact.TheVariants as fact
 use Rattle.ix_closure.specs.declared.owed.Owed.{Owed}
 use Rattle.ix_closure.specs.declared.owed.Owed.TheVariants.{Claim, End}
+use Rattle.ix_closure.specs.declared.steps.Cluster.{Cluster}
 use Rattle.ix_closure.specs.Balance.{IsBalanced}
+use Rattle.ix_closure.specs.Ends.{cluster}
 use Rattle.ix_closure.specs.Seen.{State}
 use Rattle.ix_closure.specs.Tidy.{IsTidy}
 
@@ -71,3 +78,13 @@ alternatives_claimed =
     fact.Called 0 0 ∷ fact.Desc 0 0 0 ∷ fact.Desc 2 0 0 ∷ fact.Claim 0 0 0 ∷ fact.Claim 2 0 0 ∷ fact.Part (sub_at 1 0 0 1) ∷ fact.Desc 1 0 1 ∷
     fact.Part (sub_at 3 0 0 1) ∷ fact.Desc 3 0 1 ∷ fact.Claim 1 0 1 ∷ fact.Claim 3 0 1 ∷ []
     ) 0 (End 0 0 1 ∷ End 0 0 1 ∷ [])
+
+-- ---- ends that are listed by cluster
+
+-- no list at all
+abbrev pub no_ends : IndexMap Cluster (Vec ℕ (Unit {0})) (Unit {0})
+no_ends = hash_map [] tt 0
+
+-- the end 4 of the cluster of rule 0 at 1
+abbrev pub one_end : IndexMap Cluster (Vec ℕ (Unit {0})) (Unit {0})
+one_end = hash_map ((cluster 0 1, record { ptr = null_ptr; len = 1; cap = 1; alloc = tt; items = 4 ∷ []; ok = (refl, lit≤ tt); small = lit< tt }) ∷ []) tt 0

@@ -1,6 +1,10 @@
+pub mod Additions
+pub mod Adoption
 pub mod Balance
+pub mod Brought
 pub mod Closure
 pub mod Due
+pub mod Ends
 pub mod Events
 pub mod Examples
 pub mod Follows

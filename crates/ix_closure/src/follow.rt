@@ -22,7 +22,8 @@ pub struct Descriptor {
     pub pos: u32,
 }
 
-/// What a descriptor brings that was claimed now.
+/// What a descriptor brings that was claimed now: the end of its cluster, the edge to its rule, or the arrival behind an
+/// insertion or behind a terminal that stands there. Behind a terminal that does not stand there it is nothing.
 pub fn next_step(plan: &Plan, descriptor: Descriptor) -> Option<Owed>
     requires slot { descriptor.slot < length plan.now.slots }
     requires pos { descriptor.pos ≤ length plan.now.text }
@@ -50,18 +51,18 @@ pub fn next_step(plan: &Plan, descriptor: Descriptor) -> Option<Owed>
             right: pos,
         })),
         Some(Sym::Term { terminal, .. }) => match matches(plan, terminal, pos) {
-            Some(end) => Some(Owed::Arrive(Sub {
+            Some(right) => Some(Owed::Arrive(Sub {
                 slot: plan.next(slot),
                 left,
                 pivot: pos,
-                right: end,
+                right,
             })),
             None => None,
         },
     }
 }
 
-/// What a claim brings: nothing, where the descriptor was claimed before.
+/// What a claim brings: nothing, where the descriptor was claimed before or is not there.
 pub fn claimed_step(plan: &Plan, claimed: Claimed, descriptor: Descriptor) -> Option<Owed>
     requires slot { descriptor.slot < length plan.now.slots }
     requires pos { descriptor.pos ≤ length plan.now.text }
@@ -88,7 +89,8 @@ pub fn fresh_claim(arrived: Arrived, sub: Sub) -> Option<Owed>
     }
 }
 
-/// A claim for the first slot of each alternative of the rule at the position.
+/// Appends a claim for the first slot of each alternative of the rule at the position, in their order. There must be room
+/// for them.
 pub fn push_claims(owed: &mut Vec<Owed>, plan: &Plan, rule: u32, at: u32)
     requires rule { rule < length plan.now.rules.flats }
     requires room { vec_len owed.old + length (lines_at plan.now.rules rule) ≤ vec_capacity owed.old }
@@ -107,7 +109,7 @@ pub fn push_claims(owed: &mut Vec<Owed>, plan: &Plan, rule: u32, at: u32)
     }
 }
 
-/// The claims of a cluster, where an edge called it.
+/// Appends the claims of a cluster, where an edge was the `first` to call it, and else nothing. There must be room for them.
 pub fn push_opened(owed: &mut Vec<Owed>, plan: &Plan, first: bool, rule: u32, at: u32)
     requires rule { rule < length plan.now.rules.flats }
     requires room { vec_len owed.old + length (lines_at plan.now.rules rule) ≤ vec_capacity owed.old }
@@ -120,7 +122,8 @@ pub fn push_opened(owed: &mut Vec<Owed>, plan: &Plan, first: bool, rule: u32, at
     }
 }
 
-/// The arrivals of the edge's slot behind the ends of the cluster at the position.
+/// Appends the arrivals of the edge's slot behind these ends of its cluster, which was called at the position. There must be
+/// room for them.
 pub fn push_ends(owed: &mut Vec<Owed>, plan: &Plan, at: u32, edge: Edge, ends: &[u32])
     requires room { vec_len owed.old + length ends.now ≤ vec_capacity owed.old }
     requires further { HasFurther plan.now edge.slot }
@@ -138,7 +141,8 @@ pub fn push_ends(owed: &mut Vec<Owed>, plan: &Plan, at: u32, edge: Edge, ends: &
     }
 }
 
-/// The arrivals of the slots of the edges of the cluster at the position, behind the end.
+/// Appends the arrivals of the slots of these edges of a cluster, which was called at the position, behind the end. There
+/// must be room for them.
 pub fn push_edges(owed: &mut Vec<Owed>, plan: &Plan, at: u32, end: u32, edges: &[Edge])
     requires room { vec_len owed.old + length edges.now ≤ vec_capacity owed.old }
     requires further { All (λ (edge : Arc). HasFurther plan.now edge.slot) edges.now }

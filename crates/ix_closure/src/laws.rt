@@ -8,11 +8,15 @@ ghost use Rattle.ix_cluster.specs.declared.fact.Fact.TheVariants as fact;
 ghost use Rattle.ix_cluster.specs.declared.limits.TheConstants.{FACT_LIMIT};
 ghost use Rattle.ix_cluster.specs.BankSteps as call;
 ghost use Rattle.ix_closure.specs.declared.owed.Owed.TheVariants.{Claim, Edge, End, Arrive};
+ghost use Rattle.ix_closure.specs.Additions.{Adds, IsOfSome, IsOfFirst};
+ghost use Rattle.ix_closure.specs.Adoption.{OwesMissing, LacksNothing};
 ghost use Rattle.ix_closure.specs.Balance.{IsBalanced};
+ghost use Rattle.ix_closure.specs.Brought.{IsBroughtBy, Lacks};
 ghost use Rattle.ix_closure.specs.Closure.{IsClosure};
 ghost use Rattle.ix_closure.specs.Due.{IsRecorded, IsDue, FollowsIn, IsMissing};
+ghost use Rattle.ix_closure.specs.Ends.{cluster, same_cluster, ends_listed, PushesEnd, ListsEnds};
 ghost use Rattle.ix_closure.specs.Events.{call_of, log_after, handed_by, bank_after, home_for, Event};
-ghost use Rattle.ix_closure.specs.Examples.{alone, a_called, alternatives_claimed, IsUntidy, cycle_begun, cycle_called, cycle_claimed, nothing_begun, nothing_called, nothing_claimed, nothing_closed, nothing_ended, two_banks};
+ghost use Rattle.ix_closure.specs.Examples.{alone, a_called, alternatives_claimed, IsUntidy, cycle_begun, cycle_called, cycle_claimed, no_ends, nothing_begun, nothing_called, nothing_claimed, nothing_closed, nothing_ended, one_end, two_banks};
 ghost use Rattle.ix_closure.specs.Follows.{fact_of, arrival, claims_at, claim_for, claims_for, FollowsDesc, FollowsClaim, opened, met_ends, met_edges, fresh_claim, Follows};
 ghost use Rattle.ix_closure.specs.LastRuns.{LastRun, IsReachedByLast};
 ghost use Rattle.ix_closure.specs.Laws.{ClosureListsParts, ClosureOnce, DueIsClosed, EventIsBankStep, EventKeepsBalance, EventOnce, EventThere, FollowsOnce, FollowsThere, HasMemory, LastRunIsRun, RunKeepsBalance, RunOnce};
@@ -477,6 +481,78 @@ pub fn every_order_ends_in_the_closure()
     ensures cycle { EveryOrder (cycle []) cycle_begun }
     ensures forgotten { ¬ (EveryOrder (nothing []) (alone nothing_called 0 [])) }
     ensures twice { ¬ (EveryOrder (nothing []) (alone nothing_called 0 (Claim 0 0 0 ∷ Claim 0 0 0 ∷ []))) }
+{}
+
+// ---- what a core owes that takes banks over
+
+/// Exactly the missing steps are owed, each once.
+pub fn missing_steps_are_owed()
+    ensures begun { OwesMissing (nothing []) nothing_begun }
+    ensures ended { OwesMissing (nothing []) nothing_ended }
+    ensures forgotten { ¬ (OwesMissing (nothing []) (alone nothing_called 0 [])) }
+    ensures recorded { ¬ (OwesMissing (nothing []) (alone nothing_closed 0 (End 0 0 0 ∷ []))) }
+    ensures twice { ¬ (OwesMissing (nothing []) (alone nothing_called 0 (Claim 0 0 0 ∷ Claim 0 0 0 ∷ []))) }
+{}
+
+/// Banks lack nothing where all that follows is recorded.
+pub fn closed_banks_lack_nothing()
+    ensures ended { LacksNothing (nothing []) nothing_ended.banks }
+    ensures unclaimed { ¬ (LacksNothing (nothing []) nothing_begun.banks) }
+    ensures no_end { ¬ (LacksNothing (nothing []) nothing_claimed.banks) }
+{}
+
+/// A descriptor brings its claim, a claimed descriptor what it brings, and an edge its arrivals behind the ends of its own
+/// cluster. An end brings nothing by itself.
+pub fn facts_bring_steps()
+    ensures descriptor { IsBroughtBy (only_a (codes "a")) [] (fact.Desc 0 0 0) (Claim 0 0 0) }
+    ensures elsewhere { ¬ (IsBroughtBy (only_a (codes "a")) [] (fact.Desc 0 0 0) (Claim 0 0 1)) }
+    ensures claim { IsBroughtBy (only_a (codes "a")) [] (fact.Claim 0 0 0) (Arrive (sub_at 1 0 0 1)) }
+    ensures other_text { ¬ (IsBroughtBy (only_a (codes "b")) [] (fact.Claim 0 0 0) (Arrive (sub_at 1 0 0 1))) }
+    ensures edge { IsBroughtBy (cycle []) (fact.End 0 1 2 ∷ []) (fact.Edge 0 1 0 0) (Arrive (sub_at 1 0 1 2)) }
+    ensures other_cluster { ¬ (IsBroughtBy (cycle []) (fact.End 0 0 2 ∷ []) (fact.Edge 0 1 0 0) (Arrive (sub_at 1 0 1 2))) }
+    ensures end { ¬ (IsBroughtBy (cycle []) (fact.Edge 0 1 0 0 ∷ []) (fact.End 0 1 2) (Arrive (sub_at 1 0 1 2))) }
+{}
+
+/// A step is lacking where what it is to record is not recorded.
+pub fn recorded_steps_are_not_lacking()
+    ensures lacking { Lacks [] (λ step. step ≡ End 0 0 0) (End 0 0 0) }
+    ensures recorded { ¬ (Lacks (fact.End 0 0 0 ∷ []) (λ step. step ≡ End 0 0 0) (End 0 0 0)) }
+    ensures other { ¬ (Lacks [] (λ step. step ≡ End 0 0 0) (End 0 0 1)) }
+{}
+
+/// A list that grows by items keeps its own, gets each of these and no others, and none twice.
+pub fn list_grows_by_items()
+    ensures added { Adds same_step (λ step. step ≡ End 0 0 1) (Claim 0 0 0 ∷ []) (Claim 0 0 0 ∷ End 0 0 1 ∷ []) }
+    ensures lost { ¬ (Adds same_step (λ step. step ≡ End 0 0 1) (Claim 0 0 0 ∷ []) (End 0 0 1 ∷ [])) }
+    ensures forgotten { ¬ (Adds same_step (λ step. step ≡ End 0 0 1) (Claim 0 0 0 ∷ []) (Claim 0 0 0 ∷ [])) }
+    ensures another { ¬ (Adds same_step (λ step. step ≡ End 0 0 1) [] (End 0 0 1 ∷ End 0 0 2 ∷ [])) }
+    ensures twice { ¬ (Adds same_step (λ step. step ≡ End 0 0 1) [] (End 0 0 1 ∷ End 0 0 1 ∷ [])) }
+{}
+
+/// What the items of a list bring, and what the first of them bring.
+pub fn items_of_a_list_bring()
+    ensures some { IsOfSome (1 ∷ 2 ∷ []) (λ e step. step ≡ End 0 0 e) (End 0 0 2) }
+    ensures none { ¬ (IsOfSome (1 ∷ 2 ∷ []) (λ e step. step ≡ End 0 0 e) (End 0 0 3)) }
+    ensures first { IsOfFirst (1 ∷ 2 ∷ []) (λ e step. step ≡ End 0 0 e) 1 (End 0 0 1) }
+    ensures behind { ¬ (IsOfFirst (1 ∷ 2 ∷ []) (λ e step. step ≡ End 0 0 e) 1 (End 0 0 2)) }
+{}
+
+/// Two clusters are the same where their rules and positions are.
+pub fn clusters_are_told_apart()
+    ensures same { same_cluster (cluster 2 3) (cluster 2 3) ≡ true }
+    ensures turned { same_cluster (cluster 2 3) (cluster 3 2) ≡ false }
+{}
+
+/// Each cluster has its own list of ends, and one end more is the last of that list alone.
+pub fn ends_are_listed_by_cluster()
+    ensures own { ends_listed one_end (cluster 0 1) ≡ 4 ∷ [] }
+    ensures none { ends_listed one_end (cluster 1 0) ≡ [] }
+    ensures pushes { PushesEnd no_ends (cluster 0 1) 4 one_end }
+    ensures elsewhere { ¬ (PushesEnd no_ends (cluster 0 0) 4 one_end) }
+    ensures nothing { ¬ (PushesEnd one_end (cluster 0 1) 5 one_end) }
+    ensures lists { ListsEnds (fact.Edge 0 1 0 0 ∷ fact.End 0 1 4 ∷ []) one_end }
+    ensures forgotten { ¬ (ListsEnds (fact.End 0 1 4 ∷ fact.End 0 1 5 ∷ []) one_end) }
+    ensures unrecorded { ¬ (ListsEnds [] one_end) }
 {}
 
 // ---- what the code of a step asks and gives

@@ -1,6 +1,7 @@
 //! The core of the parser: owed steps over banks of clusters, done in any order until the closure is reached.
 #![tactic(auto)]
 
+mod adopt;
 pub mod follow;
 pub mod laws;
 mod owed;

@@ -1,17 +1,20 @@
 //! The core: banks, and the steps that are owed.
-ghost use Rattle.std.specs.Prelude.{◌≡◌, ℕ, ◌<◌, ◌≤◌, ◌+◌, ◌*◌, ◌^◌, List, [], length, slice_get, Some, IfOk, IfErr, OnOk, OnErr};
+ghost use Rattle.std.specs.Prelude.{◌≡◌, ℕ, ◌<◌, ◌≤◌, ◌+◌, ◌*◌, ◌^◌, List, [], length, slice_get, Some, IsOk, IfOk, IfErr, OnOk, OnErr};
 ghost use Rattle.std.specs.List.{count_by};
 ghost use Rattle.ix_model.specs.Expansion.Planned.{IsPlanned};
 ghost use Rattle.ix_cluster.specs.Banks.{opening, facts_of, is_descriptor};
 ghost use Rattle.ix_cluster.specs.Firsts.{firsts_of};
 ghost use Rattle.ix_cluster.specs.Sound.{AreSound};
+ghost use Rattle.ix_closure.specs.Adoption.{OwesMissing, LacksNothing};
 ghost use Rattle.ix_closure.specs.Balance.{IsBalanced};
 ghost use Rattle.ix_closure.specs.Closure.{IsClosure};
 ghost use Rattle.ix_closure.specs.Events.{Event};
 ghost use Rattle.ix_closure.specs.Follows.{claims_at, claims_for};
 ghost use Rattle.ix_closure.specs.LastRuns.{IsReachedByLast};
 ghost use Rattle.ix_closure.specs.Orders.{EveryOrder};
+ghost use Rattle.ix_closure.specs.Runs.{IsQuiet};
 
+use crate::adopt::missing_steps;
 use crate::follow::push_claims;
 use crate::owed::Owed;
 use crate::steps::{do_step, home_for};
@@ -73,17 +76,22 @@ impl<'p> Core<'p> {
         Ok(Core { plan, banks, owed })
     }
 
-    /// A core over banks that are sound for the plan, with all that they have recorded.
+    /// A core over banks that are sound for the plan, with all that they have recorded. It owes exactly the steps that are
+    /// missing, each once: nothing, where nothing is missing.
     ///
     /// An error is want of memory, and the banks come back as they were.
     pub fn adopt(alloc: Global, plan: &'p Plan, banks: Banks) -> Result<Core<'p>, Unadopted>
         requires { AreSound plan.now banks.banks.items }
         ensures plan { IfOk result (λ core. core.plan ≡ plan.now) }
+        ensures banks { IfOk result (λ core. core.state.banks ≡ banks.banks.items) }
+        ensures missing { IfOk result (λ core. OwesMissing plan.now core.state) }
+        ensures nothing { LacksNothing plan.now banks.banks.items → IfOk result (λ core. core.state.owed ≡ []) }
         ensures err { IfErr result (λ unadopted. unadopted.banks ≡ banks) }
     {
-        let _ = alloc;
-        let _ = plan;
-        Err(Unadopted { banks })
+        match missing_steps(alloc, plan, &banks) {
+            Ok(owed) => Ok(Core { plan, banks, owed }),
+            Err(_) => Err(Unadopted { banks }),
+        }
     }
 
     /// How many steps are owed. None is owed only where the banks have recorded exactly the closure, each fact once, and
@@ -132,7 +140,7 @@ impl<'p> Core<'p> {
     }
 
     /// Does the last owed step again and again until nothing is owed. The banks have recorded exactly the closure then, each
-    /// fact once, and each descriptor is claimed.
+    /// fact once, and each descriptor is claimed. Where nothing is owed the banks come back as they are.
     ///
     /// An error is want of memory.
     pub fn finish(self) -> Result<Banks, Unfinished<'p>>
@@ -141,6 +149,8 @@ impl<'p> Core<'p> {
         ensures few { IfOk result (λ banks. count_by is_descriptor (facts_of banks.banks.items) ≤ length self.entry.plan.slots * ((length self.entry.plan.text + 1) * (length self.entry.plan.text + 1))) }
         // Each step was the last of those that were then owed.
         ensures reached { IfOk result (λ banks. IsReachedByLast self.entry.plan self.entry.state (record { banks = banks.banks.items; owed = [] })) }
+        ensures quiet { IsQuiet self.entry.state → IfOk result (λ banks. banks.banks.items ≡ self.entry.state.banks) }
+        ensures quiet_ok { IsQuiet self.entry.state → IsOk result }
         ensures err_plan { IfErr result (λ unfinished. unfinished.core.plan ≡ self.entry.plan) }
         ensures err_reached { IfErr result (λ unfinished. IsReachedByLast self.entry.plan self.entry.state unfinished.core.state) }
     {

@@ -36,10 +36,10 @@ pub(crate) fn home_for(plan: &Plan, count: u32, step: Owed) -> u32
 }
 
 // A rule, and where it was called.
-#[derive(Clone, Copy)]
-struct Cluster {
-    rule: u32,
-    at: u32,
+#[derive(Clone, Copy, Debug, PartialEq, Eq, Hash)]
+pub(crate) struct Cluster {
+    pub(crate) rule: u32,
+    pub(crate) at: u32,
 }
 
 // Takes the n-th owed step out, and appends the step, where there is one.

@@ -118,3 +118,41 @@ fn two_orders_end_in_the_same_facts(rt: HostRuntime) -> Result<(), Fail> {
     }
     Ok(())
 }
+
+#[test]
+fn finished_banks_lack_nothing(rt: HostRuntime) -> Result<(), Fail> {
+    let alloc = rt.alloc();
+    let plan = only_a(alloc, &['a'])?;
+    let Ok(banks) = Core::begin(alloc, &plan)?.finish() else {
+        return Err(AllocError.into());
+    };
+    let finished = facts_of(alloc, &banks)?;
+    assert_eq!(rt; finished.len(), 7);
+    let Ok(core) = Core::adopt(alloc, &plan, banks) else {
+        return Err(AllocError.into());
+    };
+    assert_eq!(rt; core.owed(), 0);
+    let Ok(banks) = core.finish() else {
+        panic!(rt; "nothing was left to do");
+    };
+    assert_eq!(rt; facts_of(alloc, &banks)?.as_slice(), finished.as_slice());
+    Ok(())
+}
+
+#[test]
+fn begun_banks_lack_their_claims(rt: HostRuntime) -> Result<(), Fail> {
+    let alloc = rt.alloc();
+    let plan = sums(alloc, &['1', '+', '1', '+', '1'])?;
+    for count in 1..5 {
+        let banks = Banks::begin(alloc, &plan, count)?;
+        let Ok(core) = Core::adopt(alloc, &plan, banks) else {
+            return Err(AllocError.into());
+        };
+        assert_eq!(rt; core.owed(), 2);
+        let Ok(banks) = core.finish() else {
+            return Err(AllocError.into());
+        };
+        assert_eq!(rt; facts_of(alloc, &banks)?.len(), 73, "{count} banks");
+    }
+    Ok(())
+}

@@ -28,7 +28,7 @@ use Rattle.ix_closure.proofs.Tidying.TidyCauses.{HasCause, IsSingle, tidy_by, be
 
 module _ (plan : Parts) (state : State) (count : ℕ) (banks : state.banks ≡ opening plan count) where
   -- what is recorded at the start is the first call, or its alternatives began with it
-  opened : (f : Fact) → IsRecorded state.banks f → ((fact.Called 0 0 ≡ f) ⊎ IsBegun plan 0 (firsts_of plan 0) f) × IsRecorded state.banks (fact.Called 0 0)
+  pub opened : (f : Fact) → IsRecorded state.banks f → ((fact.Called 0 0 ≡ f) ⊎ IsBegun plan 0 (firsts_of plan 0) f) × IsRecorded state.banks (fact.Called 0 0)
   opened f h =
       let bank = flat_from (λ (b : Bank). b.log) state.banks f h in
       let number = map_from (opening_bank plan count) (range_with_len 0 count) bank.0 (subst (λ bs. Contains bs bank.0) banks bank.1) in
@@ -42,11 +42,11 @@ module _ (plan : Parts) (state : State) (count : ℕ) (banks : state.banks ≡ o
       )
 
   -- no claim, and no edge
-  no_claim : (s l p : ℕ) → ¬ (IsRecorded state.banks (fact.Claim s l p))
+  pub no_claim : (s l p : ℕ) → ¬ (IsRecorded state.banks (fact.Claim s l p))
   unfolding IsBegun
   no_claim s l p h = elim (opened (fact.Claim s l p) h).0 [ inl e ↦ cc e | inr b ↦ elim b.2 [ inl e ↦ cc e | inr e ↦ cc (e.1) ] ]
 
-  no_edge : (r k s l : ℕ) → ¬ (IsRecorded state.banks (fact.Edge r k s l))
+  pub no_edge : (r k s l : ℕ) → ¬ (IsRecorded state.banks (fact.Edge r k s l))
   unfolding IsBegun
   no_edge r k s l h = elim (opened (fact.Edge r k s l) h).0 [ inl e ↦ cc e | inr b ↦ elim b.2 [ inl e ↦ cc e | inr e ↦ cc (e.1) ] ]
 

@@ -1,5 +1,5 @@
 -- The binary subtrees among the facts of a closure.
-use Rattle.std.proofs.Common.{◌≡◌, refl, subst, ℕ, List, Some, Contains}
+use Rattle.std.proofs.Common.{◌≡◌, refl, subst, List, Some, Contains}
 use Rattle.std.specs.List.{filter_map}
 use Rattle.ix_model.specs.declared.sub.Sub.{Sub}
 use Rattle.ix_model.specs.Expansion.Parts.{Parts}

@@ -26,7 +26,7 @@ use Rattle.ix_closure.proofs.Weighing.FactsOnce.{facts_once}
 use Rattle.ix_closure.proofs.Balancing.RecordedFacts.{recorded_in, recorded_by, recorded_closed}
 
 -- a fact is recorded or not
-recorded_or_not : (banks : List Bank) (f : Fact) → IsRecorded banks f ⊎ (IsRecorded banks f → ⊥)
+pub recorded_or_not : (banks : List Bank) (f : Fact) → IsRecorded banks f ⊎ (IsRecorded banks f → ⊥)
 recorded_or_not banks f = elim (cases_Bool (has (facts_of banks) f)) [
   | inl h ↦ inl (Contains-has (facts_of banks) f h)
   | inr n ↦ inr (λ h. absurd (cc (has-Contains (facts_of banks) f h, n)))

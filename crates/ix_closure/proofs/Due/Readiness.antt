@@ -23,7 +23,8 @@ use Rattle.ix_closure.proofs.Due.DueCauses.{edge_next}
 use Rattle.ix_closure.proofs.Lists.ListMembers.{all_have}
 
 module _ (plan : Parts) (planned : IsPlanned plan) where
-  edge_further : (r k s l : ℕ) → closed.Edge plan r k s l → HasFurther plan s
+  -- the slot of an edge has a next one
+  pub edge_further : (r k s l : ℕ) → closed.Edge plan r k s l → HasFurther plan s
   edge_further r k s l h =
       let next = edge_next plan planned r k s l h in
       let reads = next_reads plan planned s (s + 1) (sy.Rule r next.0) next.1 in

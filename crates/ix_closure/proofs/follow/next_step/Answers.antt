@@ -23,7 +23,7 @@ returns-in-Some-Insert c =
 pub returns-in-Some : goal.returns-in-Some
 returns-in-Some c =
     let at = sym c.sym.ensures.symbol ∙ c.in-Some-Term.is ∙ ap Some c.in-Some-Term.field-0-is in
-    passes_term c.args.plan.now c.slot_count.ensures.planned c.args.descriptor.slot c.args.descriptor.left c.args.descriptor.pos c.in-Some-Term.terminal _ c.next-in-Some.result c.in-Some.end c.requires.slot at
+    passes_term c.args.plan.now c.slot_count.ensures.planned c.args.descriptor.slot c.args.descriptor.left c.args.descriptor.pos c.in-Some-Term.terminal _ c.next-in-Some.result c.in-Some.right c.requires.slot at
     (subst (IsThere c.args.plan.now.rules) c.in-Some-Term.field-0-is c.in-Some-Term.ensures.there) c.in-Some.ensures.some c.next-in-Some.ensures.number
 
 pub returns-in-None-matches : goal.returns-in-None-matches

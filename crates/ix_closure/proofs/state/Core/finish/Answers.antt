@@ -3,10 +3,11 @@ use Rattle.std.specs.List.{count_by}
 use Rattle.ix_model.specs.Expansion.Parts.{Parts}
 use Rattle.ix_cluster.specs.Banks.{facts_of, is_descriptor}
 use Rattle.ix_closure.specs.LastRuns.{stays}
-use Rattle.ix_closure.specs.Seen.{Core}
+use Rattle.ix_closure.specs.Seen.{Core, State}
 use Rattle.ix_closure.proofs.Weighing.FewDescriptors.{few_descriptors}
 use Rattle.ix_closure.proofs.Closing.Finishing.{from_on_ok, event_falls}
 use Rattle.ix_closure.proofs.Closing.LastSteps.{last_further}
+use Rattle.ix_closure.proofs.Closing.QuietRuns.{quiet_last}
 use Rattle.ix_closure.proofs.state.Core.finish.Goals as goal
 
 pub loop-core-init : goal.loop-core-init
@@ -19,6 +20,12 @@ returns-then-count-eq0-clause-few c =
     let banks = ap (λ (core : Core). core.state.banks) c.core.view_is in
     subst (λ (plan : Parts). count_by is_descriptor (facts_of c.core.inside.banks.banks.items) ≤ length plan.slots * ((length plan.text + 1) * (length plan.text + 1))) c.loop-core.invariant.plan
     (subst (λ bs. count_by is_descriptor (facts_of bs) ≤ length c.loop-core.core.plan.slots * ((length c.loop-core.core.plan.text + 1) * (length c.loop-core.core.plan.text + 1))) (sym banks) few)
+
+pub returns-then-count-eq0-clause-quiet : goal.returns-then-count-eq0-clause-quiet
+returns-then-count-eq0-clause-quiet c = λ quiet. ap (λ (core : Core). core.state.banks) c.core.view_is ∙ ap (λ (state : State). state.banks) (quiet_last quiet c.loop-core.invariant.reached)
+
+pub returns-then-is_err-clause-quiet_ok : goal.returns-then-is_err-clause-quiet_ok
+returns-then-is_err-clause-quiet_ok c = λ quiet. absurd (omega (arith, c.owed-count.ensures.count, c.if-count-eq0.false, ap (λ (state : State). length state.owed) (quiet_last quiet c.loop-core.invariant.reached), ap length quiet))
 
 pub loop-core-smaller : goal.loop-core-smaller
 loop-core-smaller c =
