@@ -1,5 +1,5 @@
 -- Elements of lists by their numbers.
-use Rattle.std.proofs.Common.{◌≡◌, ◌<◌, ◌+◌, ℕ, List, [], ◌∷◌, ◌++◌, length, get_or, Some, slice_get, refl, sym, ap, ◌∙◌, subst, inl, inr, arith}
+use Rattle.std.proofs.Common.{◌≡◌, ◌<◌, ◌+◌, ℕ, zero, suc, List, [], ◌∷◌, ◌++◌, length, get_or, Some, slice_get, refl, sym, ap, ◌∙◌, subst, inl, inr, arith}
 use Rattle.std.proofs.lemmas.Option.{get_or_from_slice_get, slice_get_within, slice_get-get_or}
 use Rattle.ix_cluster.proofs.Elements.{get-push}
 use Rattle.ix_workers.specs.Team.{EachAt}
@@ -28,3 +28,12 @@ module _ {A : Type 0} where
 
   pub is_at : (xs : List A) (k : ℕ) (x d : A) → slice_get xs k ≡ Some x → get_or xs k d ≡ x
   is_at xs k x d e = get_or_from_slice_get xs k x d e
+
+-- a list of the same length has an element at the same number
+pub at_same : {A B : Type 0} → (xs : List A) (ys : List B) (k : ℕ) (x : A) → slice_get xs k ≡ Some x → length xs ≡ length ys → (y : B) × (slice_get ys k ≡ Some y)
+at_same xs ys k x e same = found ys k (let near = slice_get_within xs k x e in omega arith)
+  where
+    found : {B : Type 0} → (ys : List B) (k : ℕ) → k < length ys → (y : B) × (slice_get ys k ≡ Some y)
+    found [] k near = absurd (omega arith)
+    found (y ∷ ys) zero near = (y, refl)
+    found (y ∷ ys) (suc k) near = found ys k (omega arith)

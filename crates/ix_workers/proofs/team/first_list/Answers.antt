@@ -5,7 +5,7 @@ use Rattle.ix_workers.proofs.team.first_list.Goals as goal
 pub returns-clause-list : goal.returns-clause-list
 returns-clause-list c = record {
   first = λ e. first_claims c.args.plan.now c.slot_count.ensures.planned c.push_claims.new.owed.items (search rules);
-  other = ?;
+  other = λ h. absurd (omega (arith, h, c.if-number-gt0.false));
 }
 
 pub returns-clause-closed : goal.returns-clause-closed

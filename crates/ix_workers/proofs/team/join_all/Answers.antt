@@ -1,7 +1,7 @@
-use Rattle.std.proofs.Common.{rules, arith, ◌≡◌, ◌+◌, ◌++◌, [], ◌∷◌, List, length, sym, ap, ◌∙◌, subst, append-nil, append_assoc, length-append}
+use Rattle.std.proofs.Common.{rules, arith, refl, ◌≡◌, ◌+◌, ◌++◌, [], ◌∷◌, List, length, sym, ap, ◌∙◌, subst, append-nil, append_assoc, length-append}
 use Rattle.ix_table.specs.Sights.{sight_of}
 use Rattle.ix_workers.specs.declared.worker.Finished.{Finished}
-use Rattle.ix_workers.specs.Team.{Joins, one_more}
+use Rattle.ix_workers.specs.Team.{Joins, none, one_more}
 use Rattle.ix_workers.proofs.Listed.{at_next, nil_of}
 use Rattle.ix_workers.proofs.team.join_all.Goals as goal
 
@@ -9,6 +9,16 @@ pub join-requires : goal.join-requires
 join-requires c =
     let i = c.loop-one.invariant in
     (i.fits, i.root, c.requires.done (length c.loop-one.yielded) c.in-Some.one (at_next c.loop-one.yielded c.loop-one.one-iterator.rest.items c.args.done.items _ c.in-Some.one i.all c.in-Some.ensures.steps.0))
+
+pub loop-one-init : goal.loop-one-init
+loop-one-init c = record {
+  fits = c.requires.root.0;
+  root = c.requires.root.1;
+  begun = refl;
+  out = search (rules, arith);
+  joins = none;
+  all = search rules;
+}
 
 pub loop-one-preserved : goal.loop-one-preserved
 loop-one-preserved c =
@@ -36,6 +46,6 @@ loop-one-preserved c =
 pub returns-clause-joins : goal.returns-clause-joins
 returns-clause-joins c =
     let i = c.loop-one.invariant in
-    let none : c.loop-one.one-iterator.rest.items ≡ [] = nil_of c.loop-one.one-iterator.rest.items (let l = c.loop-one.one-iterator.rest.ok in let z = c.in-None.ensures.steps.0 in omega arith) in
-    let all : c.loop-one.yielded ≡ c.args.done.items = sym (append-nil c.loop-one.yielded) ∙ ap (λ (z : List Finished). c.loop-one.yielded ++ z) (sym none) ∙ i.all in
+    let left : c.loop-one.one-iterator.rest.items ≡ [] = nil_of c.loop-one.one-iterator.rest.items (let l = c.loop-one.one-iterator.rest.ok in let z = c.in-None.ensures.steps.0 in omega arith) in
+    let all : c.loop-one.yielded ≡ c.args.done.items = sym (append-nil c.loop-one.yielded) ∙ ap (λ (z : List Finished). c.loop-one.yielded ++ z) (sym left) ∙ i.all in
     subst (λ (z : List Finished). Joins (sight_of c.args.root.now) z (sight_of c.loop-one.root)) all i.joins
