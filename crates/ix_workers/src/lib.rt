@@ -1,32 +1,18 @@
-//! Workers that share the clusters.
+//! Workers that share the banks of one plan, each on a thread of its own, and what they leave: banks that are sound, over
+//! which the closure is made whole.
+//!
+//! Each worker has a list of the steps that it owes. Where that is empty it claims descriptors by the hints of others. No
+//! answer depends on who does which step, or on how many workers there are.
 #![tactic(auto)]
 
-ghost use Rattle.std.specs.Prelude.{◌≤◌, IfOk, length};
-ghost use Rattle.ix_cluster.specs.Banks.{facts_of};
-ghost use Rattle.ix_cluster.specs.Sound.{AreSound};
-ghost use Rattle.ix_cluster.specs.declared.limits.TheConstants.{BANK_LIMIT};
-ghost use Rattle.ix_closure.specs.Closure.{IsClosure};
+mod hints;
+pub mod laws;
+mod steps;
+mod team;
+mod worker;
+mod working;
 
-use ix_cluster::Banks;
-use ix_edge::Gate;
-use ix_model::Plan;
-use std::alloc::{AllocError, Global};
-use std::sync::Wait;
-use std::thread::Threads;
+pub use working::{Worked, close, work};
 
-/// Banks that have recorded the closure of the plan, by the work of so many workers. An error is want of memory.
-pub fn close<R: Threads + Wait + Sync, G: Gate + Sync>(
-    _rt: &R,
-    _alloc: Global,
-    plan: &Plan,
-    workers: u32,
-    _gate: &G,
-) -> Result<Banks, AllocError>
-    requires least { 1 ≤ workers }
-    requires most { workers ≤ 64 }
-    ensures closure { IfOk result (λ banks. IsClosure plan.now (facts_of banks.banks.items)) }
-    ensures sound { IfOk result (λ banks. AreSound plan.now banks.banks.items) }
-    ensures few { IfOk result (λ banks. length banks.banks.items ≤ BANK_LIMIT) }
-{
-    Err(AllocError)
-}
+#[cfg(test)]
+mod tests;

@@ -1,0 +1,10 @@
+use Rattle.std.proofs.Common.{rules, arith, ◌≡◌, sym, ap, ◌∙◌, subst}
+use Rattle.ix_table.specs.Tables.{PassFits}
+use Rattle.ix_workers.specs.declared.worker.Finished.{Finished}
+use Rattle.ix_workers.specs.declared.worker.Worker.{Worker}
+use Rattle.ix_workers.specs.Team.{IsBack}
+use Rattle.ix_workers.proofs.Listed.{read_at, near_at, is_at}
+use Rattle.ix_workers.proofs.team.run_team.Goals as goal
+
+pub map_vec-requires-after_bounds : goal.map_vec-requires-after_bounds
+map_vec-requires-after_bounds g c = λ κs bounds i x near is. let fits = c.requires.each i x (read_at c.args.team.items i x near is) in (c.requires.plan, fits.0, fits.1)

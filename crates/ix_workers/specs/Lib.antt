@@ -1,0 +1,4 @@
+pub mod Done
+pub mod Owing
+pub mod Taking
+pub mod Team

@@ -1,0 +1,51 @@
+//! Worked examples of how workers begin and of what comes back of them, each proved: what holds, and beside it what does not.
+ghost use Rattle.std.specs.Prelude.{◌≡◌, ◌++◌, ℕ, true, [], ◌∷◌};
+ghost use Rattle.ix_model.specs.Expansion.Parts.{Parts};
+ghost use Rattle.ix_examples.specs.SmallPlans.{nothing, two_alternatives};
+ghost use Rattle.ix_closure.specs.declared.owed.Owed.TheVariants.{Claim};
+ghost use Rattle.ix_rows.specs.Beginnings.{Begins};
+ghost use Rattle.ix_rows.specs.Logs.{log_at};
+ghost use Rattle.ix_table.specs.declared.table.Table.{Table};
+ghost use Rattle.ix_table.specs.Sights.{Sight, sight_of};
+ghost use Rattle.ix_table.specs.Tables.{PassFits};
+ghost use Rattle.ix_workers.specs.declared.worker.Finished.{Finished};
+ghost use Rattle.ix_workers.specs.declared.worker.Worker.{Worker};
+ghost use Rattle.ix_workers.specs.Team.{EachAt, IsFirstList, IsNew, IsBack, Joins};
+
+/// Each element has what is asked of its number, or one has it not.
+pub fn elements_have_their_numbers()
+    ensures each { EachAt {A = ℕ} (λ k n. k ≡ n) (0 ∷ 1 ∷ []) }
+    ensures nothing_asked { EachAt {A = ℕ} (λ k n. n ≡ 7) [] }
+    ensures one_has_it_not { ¬ (EachAt {A = ℕ} (λ k n. k ≡ n) (0 ∷ 0 ∷ [])) }
+{}
+
+/// The first worker begins with a claim for each descriptor that the banks begin with, and each other with nothing.
+pub fn first_worker_owes_the_claims()
+    ensures first { IsFirstList (nothing []) 0 (Claim 0 0 0 ∷ []) }
+    ensures in_order { IsFirstList (two_alternatives []) 0 (Claim 0 0 0 ∷ Claim 2 0 0 ∷ []) }
+    ensures other { IsFirstList (nothing []) 3 [] }
+    ensures first_owes_nothing { ¬ (IsFirstList (nothing []) 0 []) }
+    ensures first_owes_one { ¬ (IsFirstList (two_alternatives []) 0 (Claim 0 0 0 ∷ [])) }
+    ensures other_order { ¬ (IsFirstList (two_alternatives []) 0 (Claim 2 0 0 ∷ Claim 0 0 0 ∷ [])) }
+    ensures other_owes_too { ¬ (IsFirstList (nothing []) 1 (Claim 0 0 0 ∷ [])) }
+{}
+
+/// A worker is new with its own number alone, and knows what the root knew alone.
+pub fn new_workers_have_numbers_and_sights()
+    ensures number { (plan : Parts) (table : Table) (w : Worker) → IsNew plan table [] 0 w → ¬ (IsNew plan table [] 1 w) }
+    ensures sight { (plan : Parts) (table : Table) (w : Worker) → (sight_of w.pass).own ≡ (0, 3) ∷ [] → ¬ (IsNew plan table [] 0 w) }
+{}
+
+/// A worker that met want of memory may have left anything undone, but its pass is one of the table.
+pub fn passes_come_back()
+    ensures short { (plan : Parts) (table : Table) (w : Worker) (back : Finished) → PassFits table back.pass → back.short ≡ true → IsBack plan table w back }
+    ensures of_another_table { (plan : Parts) (table : Table) (w : Worker) (back : Finished) → ¬ (PassFits table back.pass) → ¬ (IsBack plan table w back) }
+{}
+
+/// A pass to which none was joined is as it was, and one more brings its entries and what it knows.
+pub fn joined_passes_bring_entries()
+    ensures nobody { (s : Sight) → Joins s [] s }
+    ensures one { (first last : Sight) (back : Finished) → last.own ≡ first.own ++ (sight_of back.pass).own → ((m : ℕ) → Begins (log_at last.known m) (log_at first.known m) × Begins (log_at last.known m) (log_at (sight_of back.pass).known m)) → Joins first (back ∷ []) last }
+    ensures entry_is_lost { (known : _) (back : Finished) → (sight_of back.pass).own ≡ (0, 3) ∷ [] → ¬ (Joins (record { known = known; own = [] }) (back ∷ []) (record { known = known; own = [] })) }
+    ensures entry_of_nobody { (known : _) → ¬ (Joins (record { known = known; own = [] }) [] (record { known = known; own = (0, 3) ∷ [] })) }
+{}
