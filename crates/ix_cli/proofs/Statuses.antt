@@ -38,6 +38,15 @@ pub fault_not_two : (f : ParseFault) → fault_status f ≢ 2
 fault_not_two fault.Memory e = omega (arith, e)
 fault_not_two f e = omega (arith, e)
 
+-- nor that of an output that could not be written
+pub refusal_not_eight : (r : Refusal) → refusal_status r ≢ 8
+refusal_not_eight refusal.Memory e = omega (arith, e)
+refusal_not_eight r e = omega (arith, e)
+
+pub fault_not_eight : (f : ParseFault) → fault_status f ≢ 8
+fault_not_eight fault.Memory e = omega (arith, e)
+fault_not_eight f e = omega (arith, e)
+
 -- only the answer that names a file has status 7
 pub named_file : (a : Answer) (P : List ℕ → Type 0) → status_of a ≡ 7 → P (line_of a) → (name : String Global) × (a ≡ answer.Read name) × P (read_line (string_bytes name))
 named_file (answer.Read name) P e p = (name, refl, p)
