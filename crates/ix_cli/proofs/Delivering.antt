@@ -1,5 +1,5 @@
 -- What is delivered for words is a run of them.
-use Rattle.std.proofs.Common.{◌≡◌, ◌≤◌, refl, ap, sym, subst, ℕ, List, Option, None, Some, Result, Ok, Err, arith}
+use Rattle.std.proofs.Common.{◌≡◌, ◌⊎◌, ◌≤◌, refl, sym, subst, ℕ, List, Option, None, Some, Result, Ok, Err, arith}
 use Rattle.std.specs.Io.KnownBytes.{Keeps}
 use mathlib.Core.Logic.{inl, inr}
 use Rattle.ix_cli.specs.declared.answer.Answer.{Answer}

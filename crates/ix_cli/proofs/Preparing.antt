@@ -1,5 +1,5 @@
 -- From what was prepared for words, and what came of its text, to the table of answers.
-use Rattle.std.proofs.Common.{◌≡◌, ◌≤◌, refl, ap, sym, ◌∙◌, subst, ℕ, List, [], ◌∷◌, take, Option, None, Some, Result, Ok, Err, IfSome, arith}
+use Rattle.std.proofs.Common.{◌≡◌, ◌⊎◌, ◌≤◌, sym, ◌∙◌, subst, ℕ, List, [], ◌∷◌, Option, None, Some, Result, Ok, Err, IfSome, arith}
 use Rattle.std.specs.Result.{IsErrAnd}
 use mathlib.Core.Logic.{inl, inr}
 use Rattle.ix_model.specs.Answers.Answer.{HoldsConforming}

@@ -1,5 +1,5 @@
 -- What a status says of the answer.
-use Rattle.std.proofs.Common.{◌≡◌, ◌≢◌, refl, ℕ, List, [], String, Global, string_bytes, arith}
+use Rattle.std.proofs.Common.{◌≡◌, ◌≢◌, ◌≤◌, refl, ℕ, List, [], String, Global, string_bytes, arith}
 use Rattle.ix_model.specs.Answers.Outcome as outcome
 use Rattle.ix_engine.specs.declared.outcome.ParseFault.{ParseFault}
 use Rattle.ix_engine.specs.declared.outcome.ParseFault.TheVariants as fault
@@ -53,3 +53,17 @@ named_file (answer.Read name) P e p = (name, refl, p)
 named_file (answer.Grammar r) P e p = absurd (refusal_not_read r e)
 named_file (answer.Text f) P e p = absurd (fault_not_read f e)
 named_file a P e p = absurd (omega (arith, e))
+
+-- an answer has a status other than 0 and 1
+refusal_status_said : (r : Refusal) → 2 ≤ refusal_status r
+refusal_status_said refusal.Memory = omega arith
+refusal_status_said r = omega arith
+
+fault_status_said : (f : ParseFault) → 2 ≤ fault_status f
+fault_status_said fault.Memory = omega arith
+fault_status_said f = omega arith
+
+pub told_status : (a : Answer) → 2 ≤ status_of a
+told_status (answer.Grammar r) = refusal_status_said r
+told_status (answer.Text f) = fault_status_said f
+told_status a = omega arith
