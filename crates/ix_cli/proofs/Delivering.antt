@@ -67,9 +67,9 @@ module _ (words : List (List ℕ)) (old new : Outside) (same : new.told ≡ old.
         no_form = formless_status words old.written old.said new.said old.unsaid new.unsaid old.told old.unread new.unread a status r.err told;
         formless = two_is_formless words old.written old.said new.said old.unsaid new.unsaid old.told old.unread new.unread a status r.err told;
         read = λ seven.
-          let named = read seven in
-          let refused : IsRefused words old.told old.unread new.unread (answer.Read named.0) = subst (IsRefused words old.told old.unread new.unread) named.1 r.err in
-          (_, named_unread words old.written old.said new.said old.unsaid new.unsaid old.told old.unread new.unread named.0 refused, named.2);
+            let named = read seven in
+            let refused : IsRefused words old.told old.unread new.unread (answer.Read named.0) = subst (IsRefused words old.told old.unread new.unread) named.1 r.err in
+            (_, named_unread words old.written old.said new.said old.unsaid new.unsaid old.told old.unread new.unread named.0 refused, named.2);
         write = λ eight. absurd (eighth eight);
         cut_off = λ eight. absurd (eighth eight);
         nothing = λ x y z. keeps_same old.written new.written e;

@@ -15,7 +15,10 @@ fn any_number_of_workers_writes_the_same(rt: HostRuntime) -> Result<(), Fail> {
     let mut files = MemFiles::new(entries(alloc, grammar, &text)?, Vec::new(alloc));
     let mut msg = MemSink::new(alloc, 128, Vec::new(alloc), 0)?;
     let words_of_one = words(alloc, "parse g t")?;
-    assert_eq!(rt; run_alone(alloc, &words_of_one, &mut files, &mut alone, &mut msg), 0);
+    assert_eq!(rt;
+        run_alone(alloc, &words_of_one, &mut files, &mut alone, &mut msg),
+        0
+    );
     for line in [
         "parse g t --workers 1",
         "parse g t --workers 2",
@@ -24,7 +27,9 @@ fn any_number_of_workers_writes_the_same(rt: HostRuntime) -> Result<(), Fail> {
     ] {
         let mut out = MemSink::new(alloc, 1_656, Vec::new(alloc), 0)?;
         let words = words(alloc, line)?;
-        let status = run(&rt, alloc, &words, &mut files, &mut out, &mut msg, &OpenGate);
+        let status = run(
+            &rt, alloc, &words, &mut files, &mut out, &mut msg, &OpenGate,
+        );
         assert_eq!(rt; status, 0, "{line}");
         assert_eq!(rt; out.bytes().len(), 1_656, "{line}");
         assert_eq!(rt; out.bytes(), alone.bytes(), "{line}");
@@ -84,7 +89,10 @@ fn two_workers_of_a_command_meet(rt: HostRuntime) -> Result<(), Fail> {
     let mut out = MemSink::new(alloc, 4096, Vec::new(alloc), 0)?;
     let mut msg = MemSink::new(alloc, 128, Vec::new(alloc), 0)?;
     let words = words(alloc, "parse g t --workers 2")?;
-    assert_eq!(rt; run(&rt, alloc, &words, &mut files, &mut out, &mut msg, &gate), 0);
+    assert_eq!(rt;
+        run(&rt, alloc, &words, &mut files, &mut out, &mut msg, &gate),
+        0
+    );
     assert_eq!(rt; gate.first.load(Ordering::SeqCst), 1);
     assert_eq!(rt; gate.second.load(Ordering::SeqCst), 1);
     assert_eq!(rt; gate.missed.load(Ordering::SeqCst), 0);

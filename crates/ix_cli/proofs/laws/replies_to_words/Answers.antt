@@ -23,11 +23,11 @@ pub returns-clause-no_words : goal.returns-clause-no_words
 returns-clause-no_words c output h = no_words h.form.0 h.form.1
 
 pub returns-clause-no_status : goal.returns-clause-no_status
-returns-clause-no_status c v h = by_status h.status
+returns-clause-no_status c v h = by_status 4 refl h.status
   where
-    by_status : (4 ≡ 0) ⊎ (4 ≡ 1) → ⊥
-    by_status (inl e) = omega (arith, e)
-    by_status (inr e) = omega (arith, e)
+    by_status : (n : ℕ) → n ≡ 4 → (n ≡ 0) ⊎ (n ≡ 1) → ⊥
+    by_status n f (inl e) = omega (arith, e, f)
+    by_status n f (inr e) = omega (arith, e, f)
 
 pub returns-clause-shorter : goal.returns-clause-shorter
 returns-clause-shorter c v e h = let f : 8 ≡ 9 = ap length (sym e ∙ h.ok.2.bytes ∙ the_output h.ok.0 h.ok.1) in omega (arith, f)

@@ -1,4 +1,4 @@
-use Rattle.std.proofs.Common.{◌≡◌, ◌⊎◌, refl, arith}
+use Rattle.std.proofs.Common.{◌≡◌, ◌⊎◌, ℕ, refl, arith}
 use mathlib.Core.Logic.{inl, inr}
 use Rattle.ix_model.specs.Answers.CommandLine.{sample}
 use Rattle.ix_worked_examples.proofs.SmallAnswers.{parses_g_t}
@@ -25,20 +25,20 @@ returns-clause-no_form c = record {
   later = λ name. omega arith;
 }
 
-not_three : (3 ≡ 2) ⊎ (3 ≡ 9) → ⊥
-not_three (inl e) = omega (arith, e)
-not_three (inr e) = omega (arith, e)
+not_three : (n : ℕ) → n ≡ 3 → (n ≡ 2) ⊎ (n ≡ 9) → ⊥
+not_three n f (inl e) = omega (arith, e, f)
+not_three n f (inr e) = omega (arith, e, f)
 
 pub returns-clause-no_grammar : goal.returns-clause-no_grammar
-returns-clause-no_grammar c h = not_three (h.no_form no_words)
+returns-clause-no_grammar c h = not_three 3 refl (h.no_form no_words)
 
 pub returns-clause-form : goal.returns-clause-form
 returns-clause-form c h = h.formless refl parsing parses_g_t
 
-not_refused : (3 ≡ 0) ⊎ ((3 ≡ 8) ⊎ (3 ≡ 9)) → ⊥
-not_refused (inl e) = omega (arith, e)
-not_refused (inr (inl e)) = omega (arith, e)
-not_refused (inr (inr e)) = omega (arith, e)
+not_refused : (n : ℕ) → n ≡ 3 → (n ≡ 0) ⊎ ((n ≡ 8) ⊎ (n ≡ 9)) → ⊥
+not_refused n f (inl e) = omega (arith, e, f)
+not_refused n f (inr (inl e)) = omega (arith, e, f)
+not_refused n f (inr (inr e)) = omega (arith, e, f)
 
 pub returns-clause-sample : goal.returns-clause-sample
-returns-clause-sample c h = not_refused (h.sampled 1 2 samples_1)
+returns-clause-sample c h = not_refused 3 refl (h.sampled 1 2 samples_1)
