@@ -1,9 +1,11 @@
 pub mod Caused
+pub mod Delivering
 pub mod LineForms
-pub mod Options
 pub mod LoadedFiles
 pub mod OneReply
+pub mod Options
 pub mod Outputs
+pub mod Preparing
 pub mod Refusing
 pub mod Replies
 pub mod SmallChecks

@@ -1,5 +1,5 @@
 -- What a refusal answers.
-use Rattle.std.proofs.Common.{◌≡◌, ◌≢◌, ◌⊎◌, refl, ap, sym, ◌∙◌, subst, ℕ, List, [], Option, None, Some, IfSome, String, Global, arith}
+use Rattle.std.proofs.Common.{◌≡◌, ◌≢◌, ◌⊎◌, refl, ap, sym, ◌∙◌, subst, ℕ, List, [], Option, None, Some, IfSome, String, Global, string_bytes, arith}
 use Rattle.std.specs.Io.KnownBytes.{Appends}
 use Rattle.std.proofs.KnownBytes.{Appends-nil}
 use mathlib.Core.Logic.{inl, inr}
@@ -18,8 +18,8 @@ use Rattle.ix_cli.specs.Named.{Names}
 use Rattle.ix_cli.specs.Refused.{IsRefused}
 use Rattle.ix_cli.specs.Says.{Says, Refuses}
 use Rattle.ix_cli.specs.Table.{IsReply}
-use Rattle.ix_cli.specs.Unread.{IsNext}
-use Rattle.ix_cli.proofs.Statuses.{refusal_told, fault_told, refusal_not_two, fault_not_two}
+use Rattle.ix_cli.specs.Unread.{IsNext, IsUnread}
+use Rattle.ix_cli.proofs.Statuses.{refusal_told, fault_told, refusal_not_two, fault_not_two, refusal_not_eight, fault_not_eight}
 
 module _ (words : List (List ℕ)) (out mo mn : Option (List ℕ)) (before now : ℕ) where
   -- the answer of the table, with nothing written and its line said
@@ -85,6 +85,18 @@ module _ (words : List (List ℕ)) (out mo mn : Option (List ℕ)) (before now :
   two_is_formless told old new (answer.Grammar x) status h (inl r) e = absurd (refusal_not_two x (sym r.0 ∙ e))
   two_is_formless told old new (answer.Text f) status h (inl r) e = absurd (fault_not_two f (sym r.0 ∙ e))
   two_is_formless told old new a status h (inl r) e = absurd (omega (arith, e, r.0))
+
+  -- none has the status of an output that could not be written
+  pub not_eight : (told : Option Told) (old new : List ℕ → ℕ) (a : Answer) (status : ℕ) → IsRefused words told old new a → Refuses mo mn before now a status → status ≢ 8
+  not_eight told old new a status h (inr r) e = omega (arith, e, r.0)
+  not_eight told old new (answer.Grammar x) status h (inl r) e = refusal_not_eight x (sym r.0 ∙ e)
+  not_eight told old new (answer.Text f) status h (inl r) e = fault_not_eight f (sym r.0 ∙ e)
+  not_eight told old new answer.Write status h (inl r) e = absurd h.2
+  not_eight told old new a status h (inl r) e = omega (arith, e, r.0)
+
+  -- a file that is named could not be read
+  pub named_unread : (told : Option Told) (old new : List ℕ → ℕ) (name : String Global) → IsRefused words told old new (answer.Read name) → IsUnread words told old new (string_bytes name)
+  named_unread told old new name h = (h.0, h.1, h.2.0, h.2.1)
 
   -- want of memory has status 9
   pub wanting_status : (a : Answer) (status : ℕ) → a ≡ answer.Memory → Refuses mo mn before now a status → status ≡ 9

@@ -23,11 +23,12 @@ use Rattle.ix_words.specs.declared.command.WordsFault.TheVariants as words_fault
 use Rattle.ix_cli.specs.declared.answer.Answer.{Answer}
 use Rattle.ix_cli.specs.declared.answer.Answer.TheVariants as answer
 use Rattle.ix_cli.specs.declared.output.Output.{Output}
+use Rattle.ix_cli.specs.declared.task.Prepared.{Prepared}
 use Rattle.ix_cli.specs.Loaded.{Holds, IsLoadFault, IsGrammarFault}
 use Rattle.ix_cli.specs.Means.{of_words, of_refusal, of_fault}
 use Rattle.ix_cli.specs.Named.{HasCommand}
+use Rattle.ix_cli.specs.Prepared.{IsPreparedFor}
 use Rattle.ix_cli.specs.Refused.{IsRefusedFor, IsRefused}
-use Rattle.ix_cli.specs.Sampled.{IsSampled}
 use Rattle.ix_cli.specs.Shown.{Shows, ShowsText, ShowsFigures, ShowsCommand, ShowsReply}
 use Rattle.ix_answer_laws.proofs.OneAnswer.{refused_or_held}
 use Rattle.ix_sample_laws.specs.SampleRules.{sample_rules}
@@ -131,10 +132,6 @@ pub handed_on : {T : Type 0} (r : Result T Answer) (P : Answer → Type 0) (a : 
 handed_on (Ok v) P a e p = tt
 handed_on (Err x) P a e p = subst P (sym e) p
 
-pub sampled_on : (r : Result Output Answer) (a : Answer) → IsErrAnd r (λ x. x ≡ a) → a ≡ answer.Memory → IsSampled r
-sampled_on (Ok output) a e p = absurd e
-sampled_on (Err x) a e p = e ∙ p
-
 -- what holds of all files holds of those that tell
 pub told_of_all : (r : Result Output Answer) (told : Option Told) (P : Told → Output → Type 0) → ((files : Told) → IfOk r (P files)) → IfOk r (λ output. IfSome told (λ files. P files output))
 told_of_all (Ok output) None P h = tt
@@ -148,17 +145,18 @@ pub words_refused : (words : List (List ℕ)) (told : Option Told) (old new : Li
 words_refused words told old new words_fault.NoForm h = h refl
 words_refused words told old new words_fault.Memory h = tt
 
--- words that ask for figures are refused for want of memory alone
-pub words_sampled : (words : List (List ℕ)) (r : Result Output Answer) (f : WordsFault) → IsErrAnd r (λ x. x ≡ of_words f) → (f ≡ words_fault.NoForm → HasNoForm words) → HasCommand words → IsSampled r
-words_sampled words r words_fault.NoForm e h k = absurd (h refl k.0 k.1)
-words_sampled words r words_fault.Memory e h k = sampled_on r answer.Memory e refl
+-- words that have a command are refused for want of memory alone
+pub words_wanting : (words : List (List ℕ)) (f : WordsFault) → (f ≡ words_fault.NoForm → HasNoForm words) → HasCommand words → of_words f ≡ answer.Memory
+words_wanting words words_fault.NoForm h k = absurd (h refl k.0 k.1)
+words_wanting words words_fault.Memory h k = refl
 
 module _ (words : List (List ℕ)) (command : Command) (is : IsCommand words command) where
-  pub has_command : (r : Result Output Answer) → IfOk r (λ output. HasCommand words)
-  has_command (Ok output) = (command, is)
-  has_command (Err a) = tt
+  -- what was prepared for the command was prepared for the words
+  pub command_prepared : (told : Option Told) (r : Result Prepared Answer) → IfOk r (IsPreparedFor told command) → IfOk r (λ p. (other : Command) × IsCommand words other × IsPreparedFor told other p)
+  command_prepared told (Ok p) h = (command, is, h)
+  command_prepared told (Err a) h = tt
 
-  refused_for : (told : Option Told) (old new : List ℕ → ℕ) (a : Answer) → IsRefusedFor command told old new a → IsRefused words told old new a
+  pub refused_for : (told : Option Told) (old new : List ℕ → ℕ) (a : Answer) → IsRefusedFor command told old new a → IsRefused words told old new a
   refused_for told old new answer.Words h = absurd h
   refused_for told old new answer.Memory h = tt
   refused_for told old new (answer.Grammar r) h = (command, is, h)
@@ -166,8 +164,8 @@ module _ (words : List (List ℕ)) (command : Command) (is : IsCommand words com
   refused_for told old new (answer.Read name) h = (command, is, h)
   refused_for told old new answer.Write h = absurd h
 
-  pub command_refused : (told : Option Told) (old new : List ℕ → ℕ) (r : Result Output Answer) → IfErr r (IsRefusedFor command told old new) → IfErr r (IsRefused words told old new)
-  command_refused told old new (Ok output) h = tt
+  pub command_refused : {T : Type 0} (told : Option Told) (old new : List ℕ → ℕ) (r : Result T Answer) → IfErr r (IsRefusedFor command told old new) → IfErr r (IsRefused words told old new)
+  command_refused told old new (Ok v) h = tt
   command_refused told old new (Err a) h = refused_for told old new a h
 
   pub command_shown : (told : Option Told) (r : Result Output Answer) → IfOk r (λ output. IfSome told (λ files. ShowsCommand command files output)) → IfOk r (λ output. IfSome told (λ files. ShowsReply words files output))

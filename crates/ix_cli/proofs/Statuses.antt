@@ -1,5 +1,5 @@
 -- What a status says of the answer.
-use Rattle.std.proofs.Common.{◌≡◌, ◌≢◌, refl, ℕ, List, [], String, Global, string_bytes, arith}
+use Rattle.std.proofs.Common.{◌≡◌, ◌≢◌, ◌≤◌, refl, ℕ, List, [], String, Global, string_bytes, arith}
 use Rattle.ix_model.specs.Answers.Outcome as outcome
 use Rattle.ix_engine.specs.declared.outcome.ParseFault.{ParseFault}
 use Rattle.ix_engine.specs.declared.outcome.ParseFault.TheVariants as fault
@@ -38,9 +38,32 @@ pub fault_not_two : (f : ParseFault) → fault_status f ≢ 2
 fault_not_two fault.Memory e = omega (arith, e)
 fault_not_two f e = omega (arith, e)
 
+-- nor that of an output that could not be written
+pub refusal_not_eight : (r : Refusal) → refusal_status r ≢ 8
+refusal_not_eight refusal.Memory e = omega (arith, e)
+refusal_not_eight r e = omega (arith, e)
+
+pub fault_not_eight : (f : ParseFault) → fault_status f ≢ 8
+fault_not_eight fault.Memory e = omega (arith, e)
+fault_not_eight f e = omega (arith, e)
+
 -- only the answer that names a file has status 7
 pub named_file : (a : Answer) (P : List ℕ → Type 0) → status_of a ≡ 7 → P (line_of a) → (name : String Global) × (a ≡ answer.Read name) × P (read_line (string_bytes name))
 named_file (answer.Read name) P e p = (name, refl, p)
 named_file (answer.Grammar r) P e p = absurd (refusal_not_read r e)
 named_file (answer.Text f) P e p = absurd (fault_not_read f e)
 named_file a P e p = absurd (omega (arith, e))
+
+-- an answer has a status other than 0 and 1
+refusal_status_said : (r : Refusal) → 2 ≤ refusal_status r
+refusal_status_said refusal.Memory = omega arith
+refusal_status_said r = omega arith
+
+fault_status_said : (f : ParseFault) → 2 ≤ fault_status f
+fault_status_said fault.Memory = omega arith
+fault_status_said f = omega arith
+
+pub told_status : (a : Answer) → 2 ≤ status_of a
+told_status (answer.Grammar r) = refusal_status_said r
+told_status (answer.Text f) = fault_status_said f
+told_status a = omega arith

@@ -1,7 +1,8 @@
 -- Words, files and counts that the worked examples speak of.
-use Rattle.std.specs.Prelude.{ℕ, List, [], ◌∷◌, false, codes, if◌then◌else◌}
+use Rattle.std.specs.Prelude.{ℕ, List, [], ◌∷◌, false, None, Some, codes, if◌then◌else◌}
 use Rattle.std.specs.Str.{bytes_eq}
 use Rattle.ix_edge.specs.Told.{Told}
+use Rattle.ix_cli.specs.Runs.{Outside}
 
 abbrev pub sample_1 : List (List ℕ)
 sample_1 = codes "sample" ∷ codes "1" ∷ []
@@ -21,3 +22,11 @@ no_count name = 0
 -- a load of this name alone has failed
 abbrev pub raised : List ℕ → List ℕ → ℕ
 raised name other = if bytes_eq name other then 1 else 0
+
+-- these files with these counts, a sink with these bytes and this count, and messages of which none has failed
+abbrev pub outside : Told → (List ℕ → ℕ) → List ℕ → ℕ → List ℕ → Outside
+outside files counts bytes count line = record { told = Some files; unread = counts; written = Some bytes; unwritten = count; said = Some line; unsaid = 0 }
+
+-- an outside that tells nothing, and that has not failed
+abbrev pub none_told : Outside
+none_told = record { told = None; unread = no_count; written = None; unwritten = 0; said = None; unsaid = 0 }

@@ -1,12 +1,16 @@
 pub mod Answered
 pub mod Causes
+pub mod Delivered
 pub mod Examples
 pub mod Laws
 pub mod Lines
 pub mod Loaded
 pub mod Means
 pub mod Named
+pub mod Prepared
 pub mod Refused
+pub mod Replied
+pub mod Runs
 pub mod Sampled
 pub mod Says
 pub mod Shown

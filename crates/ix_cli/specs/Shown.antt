@@ -7,6 +7,8 @@ use Rattle.ix_model.specs.Answers.CommandLine.{Command}
 use Rattle.ix_model.specs.Answers.Outcome.{Outcome, status_of, output_of, message_of}
 use Rattle.ix_edge.specs.Told.{Told, held}
 use Rattle.ix_cli.specs.declared.output.Output.{Output}
+use Rattle.ix_cli.specs.declared.task.Wanted.{Wanted}
+use Rattle.ix_cli.specs.declared.task.Wanted.TheVariants.{Document, Figures}
 use Rattle.ix_cli.specs.Table.{IsReply}
 
 -- the status and the bytes are the outcome's, which has some bytes and no message
@@ -23,6 +25,11 @@ ShowsText g text output = (o : Outcome) × TextAnswered g text o × Shows o outp
 -- it is what comes of the bytes of a text where its figures are asked for
 abbrev pub ShowsFigures : Grammar → List ℕ → Output → Type 0
 ShowsFigures g text output = (o : Outcome) × Measured g text o × Shows o output
+
+-- it is what is wanted of the bytes of a text
+abbrev pub ShowsWanted : Wanted → Grammar → List ℕ → Output → Type 0
+ShowsWanted Document g text output = ShowsText g text output
+ShowsWanted Figures g text output = ShowsFigures g text output
 
 -- it is what the table has for a command and the files
 abbrev pub ShowsCommand : Command → Told → Output → Type 0

@@ -1,33 +1,49 @@
-//! What is written of each command.
+//! What the words come to before any text is parsed.
 
-ghost use Rattle.std.specs.Prelude.{◌≡◌, ◌≤◌, ◌⊎◌, ℕ, List, IfOk, IfErr, IfSome};
+ghost use Rattle.std.specs.Prelude.{◌≡◌, ◌≤◌, ℕ, List, Option, IfOk, IfErr, map, string_bytes};
 ghost use Rattle.ix_edge.specs.Told.{Told};
-ghost use Rattle.ix_model.specs.Answers.CommandLine.{parse, check, sample, IsCommand};
+ghost use Rattle.ix_model.specs.Answers.CommandLine.{Command as Asked, parse, check, sample, IsCommand};
 ghost use Rattle.ix_words.specs.Asked.{asked};
-ghost use Rattle.ix_cli.specs.Refused.{IsRefusedFor};
-ghost use Rattle.ix_cli.specs.Sampled.{IsSampled};
-ghost use Rattle.ix_cli.specs.Shown.{ShowsCommand};
+ghost use Rattle.ix_cli.specs.Prepared.{IsPreparedFor, IsReadyIfParsed};
+ghost use Rattle.ix_cli.specs.Refused.{IsRefused, IsRefusedFor};
 
 use crate::answer::Answer;
 use crate::load::{load_grammar, load_text};
-use crate::output::{Output, conforming_output, figures_of, output_of};
+use crate::output::conforming_output;
+use crate::task::{Prepared, Task, Wanted};
 use ix_edge::Files;
 use ix_engine::compile;
 use ix_sample::{grammar, text};
 use ix_words::Command;
 use std::alloc::Global;
 
-/// What is written of the command, by the work of one thread, however many workers it asks for.
-pub fn carried_out<F: Files>(
+/// What the words come to before any text is parsed: the whole output, or a text to be parsed.
+pub fn prepared<F: Files>(
+    alloc: Global,
+    words: &[String],
+    files: &mut F,
+) -> Result<Prepared, Answer>
+    ensures ready { IfOk result IsReadyIfParsed }
+    ensures ok { IfOk result (λ p. (command : Asked) × IsCommand (map string_bytes words.now) command × IsPreparedFor (F.told files.old) command p) }
+    ensures err { IfErr result (IsRefused (map string_bytes words.now) (F.told files.old) (F.faults files.old) (F.faults files.new)) }
+    ensures sample { (lines workers : ℕ) → IsCommand (map string_bytes words.now) (sample lines workers) → IfErr result (λ a. a ≡ Answer.Memory) }
+    ensures same { F.told files.new ≡ F.told files.old }
+    ensures later { (name : List ℕ) → F.faults files.old name ≤ F.faults files.new name }
+{
+    let command = ix_words::words(alloc, words)?;
+    prepared_for(alloc, &command, files)
+}
+
+fn prepared_for<F: Files>(
     alloc: Global,
     command: &Command,
     files: &mut F,
-) -> Result<Output, Answer>
+) -> Result<Prepared, Answer>
     requires { (words : List (List ℕ)) × IsCommand words (asked command.now) }
-    ensures status { IfOk result (λ output. (output.status ≡ 0) ⊎ (output.status ≡ 1)) }
-    ensures ok { IfOk result (λ output. IfSome (F.told files.old) (λ told. ShowsCommand (asked command.now) told output)) }
+    ensures ready { IfOk result IsReadyIfParsed }
+    ensures ok { IfOk result (IsPreparedFor (F.told files.old) (asked command.now)) }
     ensures err { IfErr result (IsRefusedFor (asked command.now) (F.told files.old) (F.faults files.old) (F.faults files.new)) }
-    ensures sample { (lines workers : ℕ) → asked command.now ≡ sample lines workers → IsSampled result }
+    ensures sample { (lines workers : ℕ) → asked command.now ≡ sample lines workers → IfErr result (λ a. a ≡ Answer.Memory) }
     ensures same { F.told files.new ≡ F.told files.old }
     ensures later { (name : List ℕ) → F.faults files.old name ≤ F.faults files.new name }
 {
@@ -35,51 +51,67 @@ pub fn carried_out<F: Files>(
         Command::Parse {
             grammar,
             text,
-            workers: _,
-        } => parsed(alloc, grammar.as_str(), text.as_str(), files),
+            workers,
+        } => loaded(alloc, grammar.as_str(), text.as_str(), *workers, files),
         Command::Check { grammar } => checked(alloc, grammar.as_str(), files),
-        Command::Sample { n, workers: _ } => sampled(alloc, *n),
+        Command::Sample { n, workers } => sampled(alloc, *n, *workers),
     }
 }
 
-// The document of the text under the grammar, or the failed document.
-fn parsed<F: Files>(
+// A text to be parsed under a grammar, each from its file.
+fn loaded<F: Files>(
     alloc: Global,
     grammar: &str,
     text: &str,
+    workers: u32,
     files: &mut F,
-) -> Result<Output, Answer>
-    ensures status { IfOk result (λ output. (output.status ≡ 0) ⊎ (output.status ≡ 1)) }
-    ensures ok { (workers : ℕ) → IfOk result (λ output. IfSome (F.told files.old) (λ told. ShowsCommand (parse grammar.now text.now workers) told output)) }
-    ensures err { (workers : ℕ) → IfErr result (IsRefusedFor (parse grammar.now text.now workers) (F.told files.old) (F.faults files.old) (F.faults files.new)) }
+) -> Result<Prepared, Answer>
+    requires least { 1 ≤ workers }
+    requires most { workers ≤ 64 }
+    ensures ready { IfOk result IsReadyIfParsed }
+    ensures ok { IfOk result (IsPreparedFor (F.told files.old) (parse grammar.now text.now workers)) }
+    ensures err { IfErr result (IsRefusedFor (parse grammar.now text.now workers) (F.told files.old) (F.faults files.old) (F.faults files.new)) }
     ensures same { F.told files.new ≡ F.told files.old }
     ensures later { (name : List ℕ) → F.faults files.old name ≤ F.faults files.new name }
 {
     let grammar = load_grammar(alloc, grammar, files)?;
     let text = load_text(alloc, text, files)?;
-    Ok(output_of(alloc, &grammar, &text)?)
+    Ok(Prepared::Parse(Task {
+        grammar,
+        text,
+        workers,
+        wanted: Wanted::Document,
+    }))
 }
 
-// That the file holds a conforming grammar.
-fn checked<F: Files>(alloc: Global, grammar: &str, files: &mut F) -> Result<Output, Answer>
-    ensures status { IfOk result (λ output. output.status ≡ 0) }
-    ensures ok { IfOk result (λ output. IfSome (F.told files.old) (λ told. ShowsCommand (check grammar.now) told output)) }
+// The line for a file that holds a conforming grammar.
+fn checked<F: Files>(alloc: Global, grammar: &str, files: &mut F) -> Result<Prepared, Answer>
+    ensures ready { IfOk result IsReadyIfParsed }
+    ensures ok { IfOk result (IsPreparedFor (F.told files.old) (check grammar.now)) }
     ensures err { IfErr result (IsRefusedFor (check grammar.now) (F.told files.old) (F.faults files.old) (F.faults files.new)) }
     ensures same { F.told files.new ≡ F.told files.old }
     ensures later { (name : List ℕ) → F.faults files.old name ≤ F.faults files.new name }
 {
     let _ = load_grammar(alloc, grammar, files)?;
-    Ok(conforming_output(alloc)?)
+    Ok(Prepared::Output(conforming_output(alloc)?))
 }
 
-// The figures of the sample with so many lines.
-fn sampled(alloc: Global, lines: u32) -> Result<Output, Answer>
-    requires least { 1 ≤ lines }
-    requires most { lines ≤ 10000 }
-    ensures sampled { IsSampled result }
-    ensures ok { (files : Told) (workers : ℕ) → IfOk result (ShowsCommand (sample lines workers) files) }
+// The sample with so many lines.
+fn sampled(alloc: Global, lines: u32, workers: u32) -> Result<Prepared, Answer>
+    requires positive { 1 ≤ lines }
+    requires limited { lines ≤ 10000 }
+    requires least { 1 ≤ workers }
+    requires most { workers ≤ 64 }
+    ensures ready { IfOk result IsReadyIfParsed }
+    ensures ok { (files : Option Told) → IfOk result (IsPreparedFor files (sample lines workers)) }
+    ensures err { IfErr result (λ a. a ≡ Answer.Memory) }
 {
     let grammar = compile(alloc, grammar())?;
     let text = text(alloc, lines)?;
-    Ok(figures_of(alloc, &grammar, &text)?)
+    Ok(Prepared::Parse(Task {
+        grammar,
+        text,
+        workers,
+        wanted: Wanted::Figures,
+    }))
 }

@@ -21,18 +21,25 @@ ghost use Rattle.ix_sample_laws.specs.SampleRules.{sample_rules};
 ghost use Rattle.ix_words.specs.declared.command.WordsFault.TheVariants as words;
 ghost use Rattle.ix_cli.specs.declared.answer.Answer.TheVariants as answer;
 ghost use Rattle.ix_cli.specs.declared.output.Output.{Output};
+ghost use Rattle.ix_cli.specs.declared.task.Prepared.TheVariants as prepared;
+ghost use Rattle.ix_cli.specs.declared.task.Task.{Task};
+ghost use Rattle.ix_cli.specs.declared.task.Wanted.TheVariants as wanted;
 ghost use Rattle.ix_cli.specs.Answered.{IsAnswered, IsCutOff, IsMessage};
 ghost use Rattle.ix_cli.specs.Causes.{Parses, IsChecked, IsCaused};
-ghost use Rattle.ix_cli.specs.Examples.{sample_1, holding, without_text, raised, no_count};
+ghost use Rattle.ix_cli.specs.Delivered.{IsDelivered};
+ghost use Rattle.ix_cli.specs.Examples.{sample_1, holding, without_text, raised, no_count, outside, none_told};
 ghost use Rattle.ix_cli.specs.Laws.{ReplyIsOne, ReplyIsCaused};
-ghost use Rattle.ix_cli.specs.Lines.{memory_line, write_line};
+ghost use Rattle.ix_cli.specs.Lines.{read_line, memory_line, write_line};
 ghost use Rattle.ix_cli.specs.Loaded.{Holds, IsLoadFault, IsGrammarFault};
 ghost use Rattle.ix_cli.specs.Means.{of_words, of_refusal, of_fault};
 ghost use Rattle.ix_cli.specs.Named.{HasCommand, ReadsGrammar, ReadsText, Names};
+ghost use Rattle.ix_cli.specs.Prepared.{IsPreparedFor, IsReady, IsReadyIfParsed};
 ghost use Rattle.ix_cli.specs.Refused.{IsRefusedFor, IsRefused};
+ghost use Rattle.ix_cli.specs.Replied.{IsReplied};
+ghost use Rattle.ix_cli.specs.Runs.{IsRun};
 ghost use Rattle.ix_cli.specs.Sampled.{IsSampled};
 ghost use Rattle.ix_cli.specs.Says.{Says};
-ghost use Rattle.ix_cli.specs.Shown.{Shows, ShowsText, ShowsFigures, ShowsCommand, ShowsReply};
+ghost use Rattle.ix_cli.specs.Shown.{Shows, ShowsFigures, ShowsWanted, ShowsCommand, ShowsReply};
 ghost use Rattle.ix_cli.specs.Table.{IsReply};
 ghost use Rattle.ix_cli.specs.Unread.{IsNext, IsUnread};
 ghost use Rattle.ix_cli.specs.Written.{IsWritten};
@@ -291,11 +298,11 @@ pub fn outputs_of_an_outcome()
 
 /// A text shows its document or its failed document; where its figures are asked for, these in place of the document.
 pub fn outputs_of_a_text()
-    ensures document { (v : Vec ℕ Global) → v.items ≡ codes "<S>a</S>\n" → ShowsText only_a (codes "a") (record { status = 0; bytes = v }) }
-    ensures no_figures { (v : Vec ℕ Global) → v.items ≡ codes "text 1\ndescriptors 2\nsubtrees 1\noutput 9\n" → ¬ (ShowsText only_a (codes "a") (record { status = 0; bytes = v })) }
-    ensures figures { (v : Vec ℕ Global) → v.items ≡ codes "text 1\ndescriptors 2\nsubtrees 1\noutput 9\n" → ShowsFigures only_a (codes "a") (record { status = 0; bytes = v }) }
+    ensures document { (v : Vec ℕ Global) → v.items ≡ codes "<S>a</S>\n" → ShowsWanted wanted.Document only_a (codes "a") (record { status = 0; bytes = v }) }
+    ensures no_figures { (v : Vec ℕ Global) → v.items ≡ codes "text 1\ndescriptors 2\nsubtrees 1\noutput 9\n" → ¬ (ShowsWanted wanted.Document only_a (codes "a") (record { status = 0; bytes = v })) }
+    ensures figures { (v : Vec ℕ Global) → v.items ≡ codes "text 1\ndescriptors 2\nsubtrees 1\noutput 9\n" → ShowsWanted wanted.Figures only_a (codes "a") (record { status = 0; bytes = v }) }
     ensures other_figures { (v : Vec ℕ Global) → v.items ≡ codes "text 1\ndescriptors 1\nsubtrees 2\noutput 9\n" → ¬ (ShowsFigures only_a (codes "a") (record { status = 0; bytes = v })) }
-    ensures no_document { (v : Vec ℕ Global) → v.items ≡ codes "<S>a</S>\n" → ¬ (ShowsFigures only_a (codes "a") (record { status = 0; bytes = v })) }
+    ensures no_document { (v : Vec ℕ Global) → v.items ≡ codes "<S>a</S>\n" → ¬ (ShowsWanted wanted.Figures only_a (codes "a") (record { status = 0; bytes = v })) }
     ensures failed { (v : Vec ℕ Global) → v.items ≡ codes "<fail xmlns:ixml=\"http://invisiblexml.org/NS\" ixml:state=\"failed\" offset=\"1\" line=\"1\" column=\"2\"/>\n" → ShowsFigures only_a (codes "ab") (record { status = 1; bytes = v }) }
     ensures not_failed { (v : Vec ℕ Global) → ¬ (ShowsFigures only_a (codes "a") (record { status = 1; bytes = v })) }
 {}
@@ -349,4 +356,81 @@ pub fn messages_of_a_status()
     ensures too_long { IsMessage 6 (λ line. line ≡ message_of text_too_long) }
     ensures another { ¬ (IsMessage 6 (λ line. line ≡ write_line)) }
     ensures not_silent { ¬ (IsMessage 6 (λ line. line ≡ [])) }
+{}
+
+/// `parse` has what its two files hold, and its workers; `check` has its line where its file holds a grammar; `sample` has
+/// the text of its number, for figures.
+pub fn commands_that_are_prepared()
+    ensures parse { (v : Vec ℕ Global) → v.items ≡ codes "a" → IsPreparedFor (Some (holding one_way (codes "a"))) (parse (codes "g") (codes "t") 2) (prepared.Parse (record { grammar = only_a; text = v; workers = 2; wanted = wanted.Document })) }
+    ensures other_text { (v : Vec ℕ Global) → v.items ≡ codes "ab" → ¬ (IsPreparedFor (Some (holding one_way (codes "a"))) (parse (codes "g") (codes "t") 2) (prepared.Parse (record { grammar = only_a; text = v; workers = 2; wanted = wanted.Document }))) }
+    ensures no_grammar { (task : Task) → ¬ (IsPreparedFor (Some (holding [] (codes "a"))) (parse (codes "g") (codes "t") 2) (prepared.Parse task)) }
+    ensures other_workers { (v : Vec ℕ Global) → ¬ (IsPreparedFor (Some (holding one_way (codes "a"))) (parse (codes "g") (codes "t") 2) (prepared.Parse (record { grammar = only_a; text = v; workers = 3; wanted = wanted.Document }))) }
+    ensures no_figures { (v : Vec ℕ Global) → ¬ (IsPreparedFor (Some (holding one_way (codes "a"))) (parse (codes "g") (codes "t") 2) (prepared.Parse (record { grammar = only_a; text = v; workers = 2; wanted = wanted.Figures }))) }
+    ensures check { (v : Vec ℕ Global) → v.items ≡ codes "ok\n" → IsPreparedFor (Some (without_text one_way)) (check (codes "g")) (prepared.Output (record { status = 0; bytes = v })) }
+    ensures not_checked { (output : Output) → ¬ (IsPreparedFor (Some (holding [] [])) (check (codes "g")) (prepared.Output output)) }
+    ensures not_parsed { (task : Task) → ¬ (IsPreparedFor (Some (without_text one_way)) (check (codes "g")) (prepared.Parse task)) }
+    ensures sample { (v : Vec ℕ Global) → v.items ≡ codes "1:ab\n" → IsPreparedFor None (sample 1 2) (prepared.Parse (record { grammar = sample_rules; text = v; workers = 2; wanted = wanted.Figures })) }
+    ensures other_number { (v : Vec ℕ Global) → v.items ≡ codes "1:ab\n" → ¬ (IsPreparedFor None (sample 2 2) (prepared.Parse (record { grammar = sample_rules; text = v; workers = 2; wanted = wanted.Figures }))) }
+{}
+
+/// A text can be parsed by 1 to 64 workers.
+pub fn tasks_that_are_ready()
+    ensures one { (v : Vec ℕ Global) → IsReady (record { grammar = only_a; text = v; workers = 1; wanted = wanted.Document }) }
+    ensures all { (v : Vec ℕ Global) → IsReadyIfParsed (prepared.Parse (record { grammar = only_a; text = v; workers = 64; wanted = wanted.Figures })) }
+    ensures none { (v : Vec ℕ Global) → ¬ (IsReady (record { grammar = only_a; text = v; workers = 0; wanted = wanted.Document })) }
+    ensures too_many { (v : Vec ℕ Global) → ¬ (IsReadyIfParsed (prepared.Parse (record { grammar = only_a; text = v; workers = 65; wanted = wanted.Document }))) }
+    ensures no_text { (output : Output) → IsReadyIfParsed (prepared.Output output) }
+{}
+
+/// Words have the table's output, or a refusal with its cause.
+pub fn replies_to_words()
+    ensures words { IsReplied [] (Some (holding one_way [])) no_count no_count (Err answer.Words) }
+    ensures not_words { ¬ (IsReplied parse_g_t (Some (holding one_way [])) no_count no_count (Err answer.Words)) }
+    ensures no_words { (output : Output) → ¬ (IsReplied [] None no_count no_count (Ok output)) }
+    ensures no_status { (v : Vec ℕ Global) → ¬ (IsReplied parse_g_t None no_count no_count (Ok (record { status = 4; bytes = v }))) }
+    ensures shorter { (v : Vec ℕ Global) → v.items ≡ codes "<S>a</S>" → ¬ (IsReplied parse_g_t (Some (holding one_way (codes "a"))) no_count no_count (Ok (record { status = 0; bytes = v }))) }
+    ensures sample { ¬ (IsReplied sample_1 None no_count no_count (Err (answer.Grammar refusal.NotIxml))) }
+{}
+
+/// A refusal says its line and writes nothing.
+pub fn answers_that_are_delivered()
+    ensures whole { (v : Vec ℕ Global) → v.items ≡ codes "<S/>" → IsDelivered (Some []) (Some (codes "<S/>")) 0 0 (Some []) (Some []) 0 0 (Ok (record { status = 0; bytes = v })) 0 }
+    ensures line { IsDelivered (Some []) (Some []) 0 0 (Some []) (Some memory_line) 0 0 (Err answer.Memory) 9 }
+    ensures other_line { ¬ (IsDelivered (Some []) (Some []) 0 0 (Some []) (Some write_line) 0 0 (Err answer.Memory) 9) }
+    ensures other_status { ¬ (IsDelivered (Some []) (Some []) 0 0 (Some []) (Some memory_line) 0 0 (Err answer.Memory) 0) }
+    ensures not_written { ¬ (IsDelivered (Some []) (Some (codes "<S/>")) 0 0 (Some []) (Some memory_line) 0 0 (Err answer.Memory) 9) }
+    ensures no_file { ¬ (IsDelivered (Some []) (Some []) 0 0 (Some []) (Some []) 0 1 (Err answer.Memory) 7) }
+{}
+
+/// `S: "a".` on `a` has a document, which is written with status 0 and without a line.
+pub fn runs_with_a_document()
+    ensures document { IsRun parse_g_t (outside (holding one_way (codes "a")) no_count [] 0 []) (outside (holding one_way (codes "a")) no_count (codes "<S>a</S>\n") 0 []) 0 }
+    ensures shorter { ¬ (IsRun parse_g_t (outside (holding one_way (codes "a")) no_count [] 0 []) (outside (holding one_way (codes "a")) no_count (codes "<S>a</S>") 0 []) 0) }
+    ensures refused { ¬ (IsRun parse_g_t (outside (holding one_way (codes "a")) no_count [] 0 []) (outside (holding one_way (codes "a")) no_count [] 0 []) 3) }
+    ensures another_front { ¬ (IsRun parse_g_t (outside (holding one_way (codes "a")) no_count [] 0 []) (outside (holding one_way (codes "a")) no_count (codes "S") 1 write_line) 8) }
+    ensures failed { ¬ (IsRun parse_g_t (outside (holding one_way (codes "ab")) no_count [] 0 []) (outside (holding one_way (codes "ab")) no_count (codes "<S/>\n") 0 []) 0) }
+{}
+
+/// Words without a form have status 2, and no others have. A sample is never refused.
+pub fn runs_by_their_words()
+    ensures no_form { IsRun [] none_told none_told 2 }
+    ensures no_grammar { ¬ (IsRun [] none_told none_told 3) }
+    ensures form { ¬ (IsRun parse_g_t none_told none_told 2) }
+    ensures sample { ¬ (IsRun sample_1 none_told none_told 3) }
+{}
+
+/// What could not be read or written has a count that rose; else no answer blames it.
+pub fn runs_that_fail()
+    ensures not_read { ¬ (IsRun parse_g_t (outside (holding one_way []) no_count [] 0 []) (outside (holding one_way []) no_count [] 0 (read_line (codes "g"))) 7) }
+    ensures not_told { ¬ (IsRun parse_g_t (outside (holding one_way []) no_count [] 0 []) (outside (holding one_way []) (raised (codes "g")) [] 0 []) 7) }
+    ensures not_complete { ¬ (IsRun parse_g_t (outside (holding one_way (codes "a")) no_count [] 0 []) (outside (holding one_way (codes "a")) no_count [] 0 write_line) 8) }
+    ensures not_risen { ¬ (IsRun parse_g_t none_told none_told 8) }
+{}
+
+/// A refusal writes nothing and says its own line; files keep what they tell, and counts never fall.
+pub fn runs_that_change_more()
+    ensures written { ¬ (IsRun parse_g_t (outside (holding [] []) no_count [] 0 []) (outside (holding [] []) no_count (codes "<S/>") 0 memory_line) 9) }
+    ensures said { ¬ (IsRun parse_g_t (outside (holding one_way []) no_count [] 0 []) (outside (holding one_way []) no_count [] 0 write_line) 0) }
+    ensures other_files { ¬ (IsRun parse_g_t (outside (holding [] []) no_count [] 0 []) (outside (without_text []) no_count [] 0 memory_line) 9) }
+    ensures lower_count { ¬ (IsRun parse_g_t (outside (holding [] []) (raised (codes "g")) [] 0 []) (outside (holding [] []) no_count [] 0 memory_line) 9) }
 {}

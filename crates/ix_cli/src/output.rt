@@ -1,13 +1,10 @@
-ghost use Rattle.std.specs.Prelude.{◌≡◌, ◌≤◌, ◌⊎◌, IfOk, IfErr};
-ghost use Rattle.ix_model.specs.Answers.Limits.{grammar_limit};
-ghost use Rattle.ix_model.specs.Grammars.Breach.{Conforming};
-ghost use Rattle.ix_model.specs.Grammars.Size.{size};
-ghost use Rattle.ix_engine.specs.Parsed.{IsFault};
+ghost use Rattle.std.specs.Prelude.{◌≡◌, ◌⊎◌, IfOk, IfErr};
+ghost use Rattle.ix_engine.specs.Parsed.{IsOutcome, IsFault};
 ghost use Rattle.ix_model.specs.Answers.Outcome.{conforms, failed};
-ghost use Rattle.ix_cli.specs.Shown.{Shows, ShowsText, ShowsFigures};
+ghost use Rattle.ix_cli.specs.Shown.{Shows, ShowsWanted};
 
-use ix_engine::{Outcome, ParseFault, parse_alone};
-use ix_model::Grammar;
+use crate::task::{Task, Wanted};
+use ix_engine::{Outcome, ParseFault};
 use ix_sample::summary;
 use ix_serial::{bytes, failed_bytes};
 use std::alloc::{AllocError, Global};
@@ -31,42 +28,19 @@ pub fn conforming_output(alloc: Global) -> Result<Output, AllocError>
     })
 }
 
-/// The document of the text under the grammar, or the failed document.
-pub fn output_of(alloc: Global, grammar: &Grammar, text: &[u8]) -> Result<Output, ParseFault>
-    requires conforming { Conforming grammar.now }
-    requires small { size grammar.now ≤ grammar_limit }
+/// What is wanted of the task's text, of which this came: its document or its figures; or the failed document.
+pub fn output_of(
+    alloc: Global,
+    task: &Task,
+    parsed: Result<Outcome, ParseFault>,
+) -> Result<Output, ParseFault>
+    requires ok { IfOk parsed (IsOutcome task.now.grammar task.now.text.items) }
+    requires err { IfErr parsed (IsFault task.now.grammar task.now.text.items) }
     ensures status { IfOk result (λ output. (output.status ≡ 0) ⊎ (output.status ≡ 1)) }
-    ensures ok { IfOk result (ShowsText grammar.now text.now) }
-    ensures err { IfErr result (IsFault grammar.now text.now) }
+    ensures ok { IfOk result (ShowsWanted task.now.wanted task.now.grammar task.now.text.items) }
+    ensures err { IfErr result (IsFault task.now.grammar task.now.text.items) }
 {
-    match parse_alone(alloc, grammar, text)? {
-        Outcome::Tree {
-            plan,
-            marked,
-            state,
-            counts: _,
-        } => Ok(Output {
-            status: 0,
-            bytes: bytes(alloc, &plan, &marked, state)?,
-        }),
-        Outcome::Failed {
-            offset,
-            line,
-            column,
-            counts: _,
-        } => Ok(failed_output(alloc, offset, line, column)?),
-    }
-}
-
-/// The figures of the text under the grammar: of the text, its parse and its document; or the failed document.
-pub fn figures_of(alloc: Global, grammar: &Grammar, text: &[u8]) -> Result<Output, ParseFault>
-    requires conforming { Conforming grammar.now }
-    requires small { size grammar.now ≤ grammar_limit }
-    ensures status { IfOk result (λ output. (output.status ≡ 0) ⊎ (output.status ≡ 1)) }
-    ensures ok { IfOk result (ShowsFigures grammar.now text.now) }
-    ensures err { IfErr result (IsFault grammar.now text.now) }
-{
-    match parse_alone(alloc, grammar, text)? {
+    match parsed? {
         Outcome::Tree {
             plan,
             marked,
@@ -74,10 +48,16 @@ pub fn figures_of(alloc: Global, grammar: &Grammar, text: &[u8]) -> Result<Outpu
             counts,
         } => {
             let document = bytes(alloc, &plan, &marked, state)?;
-            Ok(Output {
-                status: 0,
-                bytes: summary(alloc, text.len() as u64, counts, document.len() as u64)?,
-            })
+            match task.wanted {
+                Wanted::Document => Ok(Output {
+                    status: 0,
+                    bytes: document,
+                }),
+                Wanted::Figures => Ok(Output {
+                    status: 0,
+                    bytes: summary(alloc, task.text.len() as u64, counts, document.len() as u64)?,
+                }),
+            }
         }
         Outcome::Failed {
             offset,

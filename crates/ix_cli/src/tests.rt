@@ -6,6 +6,7 @@ mod checks;
 mod long;
 mod recorded;
 mod samples;
+mod sharing;
 
 use crate::{Answer, message, run_alone};
 use ix_edge::{Entry, Files, MemFiles, MemSink, Sink, SureFiles};

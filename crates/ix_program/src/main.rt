@@ -15,7 +15,7 @@ mod tests;
 
 use files::RealFiles;
 use ix_cli::Answer;
-use ix_edge::Sink;
+use ix_edge::{OpenGate, Sink};
 use std::alloc::Global;
 use std::process::ExitCode;
 use std::rt::Env;
@@ -29,7 +29,15 @@ fn main(rt: HostRuntime) -> ExitCode {
     let mut out = Stream::new(rt.stdout());
     let mut msg = Stream::new(rt.stderr());
     let status = match words_of(&rt, alloc) {
-        Ok(words) => ix_cli::run_alone(alloc, words.as_slice(), &mut files, &mut out, &mut msg),
+        Ok(words) => ix_cli::run(
+            &rt,
+            alloc,
+            words.as_slice(),
+            &mut files,
+            &mut out,
+            &mut msg,
+            &OpenGate,
+        ),
         Err(error) => refuse_words(alloc, &error, &mut msg),
     };
     ExitCode::from(status)

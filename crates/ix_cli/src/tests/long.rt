@@ -10,7 +10,7 @@ const FAILED: &[u8] =
 const TOO_LONG: &[u8] = b"ixml: text longer than 16777216 bytes\n";
 
 // So many ones with a plus sign between them.
-fn sum(alloc: Global, ones: usize) -> Result<Vec<u8>, AllocError> {
+pub(super) fn sum(alloc: Global, ones: usize) -> Result<Vec<u8>, AllocError> {
     let mut text = Vec::from_slice(alloc, b"1")?;
     for _ in 1..ones {
         text.extend_from_slice(b"+1")?;

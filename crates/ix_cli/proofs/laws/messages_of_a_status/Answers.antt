@@ -1,4 +1,4 @@
-use Rattle.std.proofs.Common.{◌≡◌, ◌≤◌, refl, ap, length, arith}
+use Rattle.std.proofs.Common.{◌≡◌, refl, ap, length, arith}
 use mathlib.Core.Logic.{inl, inr}
 use Rattle.ix_engine.specs.declared.outcome.DynFault.TheVariants as code
 use Rattle.ix_engine.specs.declared.outcome.ParseFault.{ParseFault}
@@ -8,6 +8,7 @@ use Rattle.ix_engine.specs.declared.refusal.Refusal.TheVariants as refusal
 use Rattle.ix_cli.specs.declared.answer.Answer.{Answer}
 use Rattle.ix_cli.specs.declared.answer.Answer.TheVariants as answer
 use Rattle.ix_cli.specs.Lines.{line_of, status_of, refusal_status, fault_status}
+use Rattle.ix_cli.proofs.Statuses.{told_status}
 use Rattle.ix_cli.proofs.laws.messages_of_a_status.Goals as goal
 
 pub returns-clause-silent : goal.returns-clause-silent
@@ -22,27 +23,13 @@ returns-clause-no_document c = inr (answer.Text (fault.Dynamic code.Xmlns), refl
 pub returns-clause-too_long : goal.returns-clause-too_long
 returns-clause-too_long c = inr (answer.Text fault.TooLong, refl, refl)
 
--- an answer has a status other than 0 and 1
-refusal_is_said : (r : Refusal) → 2 ≤ refusal_status r
-refusal_is_said refusal.Memory = omega arith
-refusal_is_said r = omega arith
-
-fault_is_said : (f : ParseFault) → 2 ≤ fault_status f
-fault_is_said fault.Memory = omega arith
-fault_is_said f = omega arith
-
-is_said : (a : Answer) → 2 ≤ status_of a
-is_said (answer.Grammar r) = refusal_is_said r
-is_said (answer.Text f) = fault_is_said f
-is_said a = omega arith
-
 pub returns-clause-not_at_success : goal.returns-clause-not_at_success
 returns-clause-not_at_success c (inl h) = absurd (cc h.1)
-returns-clause-not_at_success c (inr (a, e, said)) = omega (arith, is_said a, e)
+returns-clause-not_at_success c (inr (a, e, said)) = omega (arith, told_status a, e)
 
 pub returns-clause-not_at_failure : goal.returns-clause-not_at_failure
 returns-clause-not_at_failure c (inl h) = absurd (cc h.1)
-returns-clause-not_at_failure c (inr (a, e, said)) = omega (arith, is_said a, e)
+returns-clause-not_at_failure c (inr (a, e, said)) = omega (arith, told_status a, e)
 
 -- only a text that is too long has status 6
 refusal_is_none : (r : Refusal) → 6 ≡ refusal_status r → ⊥
