@@ -1,4 +1,4 @@
-use Rattle.std.proofs.Common.{◌≡◌, ℕ, [], ◌∷◌, Some, slice_get, refl, sym, ap, ◌∙◌, inl, inr, arith}
+use Rattle.std.proofs.Common.{◌≡◌, [], ◌∷◌, Some, slice_get, refl, sym, ap, ◌∙◌, inl, inr, arith}
 use Rattle.ix_cluster.proofs.Members.{first_has, rest_has, either_has, one_has}
 use Rattle.ix_closure.proofs.laws.items_of_a_list_bring.Goals as goal
 
