@@ -38,9 +38,9 @@ module _ (words : List (List ℕ)) (old new : Outside) (same : new.told ≡ old.
         answered = λ a b c. whole b c;
         complete = λ n m c. whole (λ e. m (rose e)) c;
         causes = λ a b c. answered_caused words old.told old.written new.written status Says_here (whole b c);
-        sampled = λ lines workers is. written_sample old.written new.written old.said new.said old.unwritten new.unwritten old.unsaid new.unsaid output status w (r.sampled lines workers is);
+        sample = λ lines workers is. written_sample old.written new.written old.said new.said old.unwritten new.unwritten old.unsaid new.unsaid output status w (r.sampled lines workers is);
         no_form = λ none. absurd (none r.form.0 r.form.1);
-        formless = λ e. absurd (no_refusal range 2 (omega arith) (omega arith) e);
+        words = λ e. absurd (no_refusal range 2 (omega arith) (omega arith) e);
         read = λ e. absurd (no_refusal range 7 (omega arith) (omega arith) e);
         write = rose;
         cut_off = written_front old.written new.written old.said new.said old.unwritten new.unwritten old.unsaid new.unsaid output status w r.status words old.told r.ok;
@@ -63,9 +63,9 @@ module _ (words : List (List ℕ)) (old new : Outside) (same : new.told ≡ old.
         answered = λ x y z. answers (answered x y z);
         complete = λ n m c. answers (refused_complete words old.written old.said new.said old.unsaid new.unsaid old.told old.unread new.unread a status r.err told n c);
         causes = λ x y z. answered_caused words old.told old.written old.written status Says_here (answered x y z);
-        sampled = λ lines workers is. inr (inr (wanting_status words old.written old.said new.said old.unsaid new.unsaid a status (r.sampled lines workers is) told));
+        sample = λ lines workers is. inr (inr (wanting_status words old.written old.said new.said old.unsaid new.unsaid a status (r.sampled lines workers is) told));
         no_form = formless_status words old.written old.said new.said old.unsaid new.unsaid old.told old.unread new.unread a status r.err told;
-        formless = two_is_formless words old.written old.said new.said old.unsaid new.unsaid old.told old.unread new.unread a status r.err told;
+        words = two_is_formless words old.written old.said new.said old.unsaid new.unsaid old.told old.unread new.unread a status r.err told;
         read = λ seven.
             let named = read seven in
             let refused : IsRefused words old.told old.unread new.unread (answer.Read named.0) = subst (IsRefused words old.told old.unread new.unread) named.1 r.err in

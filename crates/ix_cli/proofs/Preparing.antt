@@ -1,8 +1,7 @@
 -- From what was prepared for words, and what came of its text, to the table of answers.
 use Rattle.std.proofs.Common.{◌≡◌, ◌⊎◌, ◌≤◌, sym, ◌∙◌, subst, ℕ, List, [], ◌∷◌, Option, None, Some, Result, Ok, Err, IfSome, arith}
 use Rattle.std.specs.Result.{IsErrAnd}
-use mathlib.Core.Logic.{inl, inr}
-use Rattle.ix_model.specs.Answers.Answer.{HoldsConforming}
+use mathlib.Core.Logic.{inl}
 use Rattle.ix_model.specs.Answers.CommandLine.{Command, parse, check, sample, IsWorkers, IsCommand}
 use Rattle.ix_model.specs.Answers.Sample.{sample_text}
 use Rattle.ix_edge.specs.Told.{Told}
@@ -18,9 +17,7 @@ use Rattle.ix_cli.specs.Means.{of_fault}
 use Rattle.ix_cli.specs.Prepared.{IsPreparedFor}
 use Rattle.ix_cli.specs.Refused.{IsRefused}
 use Rattle.ix_cli.specs.Replied.{IsReplied}
-use Rattle.ix_cli.specs.Sampled.{IsSampled}
 use Rattle.ix_cli.specs.Shown.{ShowsText, ShowsFigures, ShowsWanted, ShowsCommand}
-use Rattle.ix_cli.specs.Unread.{HoldsSome}
 use Rattle.ix_cli.proofs.Replies.{text_refused, output_shown, check_shown, sample_parsed, sample_done, sample_shown, refused_for, command_shown, told_of_all}
 
 -- ---- the numbers of a command

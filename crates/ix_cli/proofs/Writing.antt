@@ -1,5 +1,5 @@
 -- What is answered where something goes to the output.
-use Rattle.std.proofs.Common.{◌≡◌, ◌≢◌, ◌⊎◌, ◌≤◌, sym, ap, ◌∙◌, subst, ℕ, List, [], take, Option, None, Some, IfSome, arith}
+use Rattle.std.proofs.Common.{◌≡◌, ◌≢◌, ◌⊎◌, ◌≤◌, sym, ◌∙◌, subst, ℕ, List, [], take, Option, None, Some, IfSome, arith}
 use Rattle.std.specs.Io.KnownBytes.{Appends, Keeps}
 use Rattle.std.proofs.KnownBytes.{Appends-nil, Appends-kept}
 use mathlib.Core.Logic.{inl, inr}

@@ -1,6 +1,6 @@
 -- What a command comes to before any text is parsed.
 -- Source: this project's own.
-use Rattle.std.specs.Prelude.{◌≡◌, ◌≤◌, ℕ, List, Option, take}
+use Rattle.std.specs.Prelude.{◌≡◌, ◌≤◌, Option, take}
 use Rattle.ix_model.specs.Answers.Answer.{HoldsConforming}
 use Rattle.ix_model.specs.Answers.CommandLine.{Command, parse, check, sample}
 use Rattle.ix_model.specs.Answers.Limits.{grammar_limit}

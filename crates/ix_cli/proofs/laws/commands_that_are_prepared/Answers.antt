@@ -1,5 +1,4 @@
-use Rattle.std.proofs.Common.{◌≡◌, refl, sym, ap, ◌∙◌, subst, length, codes, take, arith}
-use Rattle.ix_model.specs.Answers.Answer.{HoldsConforming}
+use Rattle.std.proofs.Common.{◌≡◌, refl, sym, ap, ◌∙◌, length, codes, take, arith}
 use Rattle.ix_examples.specs.SmallAnswers.{one_way}
 use Rattle.ix_examples.specs.SmallGrammars.{only_a}
 use Rattle.ix_sample_laws.proofs.SampleConforms.{sample_conforms}

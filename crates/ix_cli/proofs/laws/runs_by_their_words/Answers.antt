@@ -13,9 +13,9 @@ returns-clause-no_form c = record {
   answered = λ x y z. tt;
   complete = λ n m z. tt;
   causes = λ x y z. tt;
-  sampled = λ lines workers is. absurd (no_words (sample lines workers) is);
+  sample = λ lines workers is. absurd (no_words (sample lines workers) is);
   no_form = λ none. inl refl;
-  formless = λ e. no_words;
+  words = λ e. no_words;
   read = λ e. absurd (omega (arith, e));
   write = λ e. absurd (omega (arith, e));
   cut_off = λ e. tt;
@@ -33,7 +33,7 @@ pub returns-clause-no_grammar : goal.returns-clause-no_grammar
 returns-clause-no_grammar c h = not_three 3 refl (h.no_form no_words)
 
 pub returns-clause-form : goal.returns-clause-form
-returns-clause-form c h = h.formless refl parsing parses_g_t
+returns-clause-form c h = h.words refl parsing parses_g_t
 
 not_refused : (n : ℕ) → n ≡ 3 → (n ≡ 0) ⊎ ((n ≡ 8) ⊎ (n ≡ 9)) → ⊥
 not_refused n f (inl e) = omega (arith, e, f)
@@ -41,4 +41,4 @@ not_refused n f (inr (inl e)) = omega (arith, e, f)
 not_refused n f (inr (inr e)) = omega (arith, e, f)
 
 pub returns-clause-sample : goal.returns-clause-sample
-returns-clause-sample c h = not_refused 3 refl (h.sampled 1 2 samples_1)
+returns-clause-sample c h = not_refused 3 refl (h.sample 1 2 samples_1)

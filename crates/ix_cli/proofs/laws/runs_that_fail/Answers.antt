@@ -1,4 +1,4 @@
-use Rattle.std.proofs.Common.{◌≡◌, ◌≤◌, refl, sym, ap, ◌∙◌, arith}
+use Rattle.std.proofs.Common.{◌≤◌, refl, sym, ap, ◌∙◌, arith}
 use Rattle.ix_model.specs.Answers.Outcome.{status_of}
 use Rattle.ix_cli.proofs.SmallReplies.{the_document}
 use Rattle.ix_cli.proofs.laws.runs_that_fail.Goals as goal

@@ -1,8 +1,8 @@
-use Rattle.std.proofs.Common.{[], ◌≡◌, List, sym, ◌∙◌, subst}
+use Rattle.std.proofs.Common.{◌++◌, List, Option, append-nil, ap, ◌∙◌, subst}
+use Rattle.std.specs.Option.{option_to_list}
 use Rattle.ix_closure.specs.declared.owed.Owed.{Owed}
 use Rattle.ix_table.specs.Sights.{sight_of}
 use Rattle.ix_workers.specs.Done.{Works, begins}
-use Rattle.ix_workers.specs.Owing.{OwesClosed}
 use Rattle.ix_workers.proofs.DoneSteps.{closed_on, one_step, taken_last}
 use Rattle.ix_workers.proofs.worker.turn.Goals as goal
 
@@ -25,4 +25,4 @@ returns-in-Some-clause-owed g c =
 pub returns-in_default-next-clause-works : goal.returns-in_default-next-clause-works
 returns-in_default-next-clause-works g c =
     let w = c.args.worker.now in
-    subst (λ (l : List Owed). Works c.args.plan.now (sight_of w.pass) w.owed.items (sight_of w.pass) l) ? begins
+    subst (λ (l : List Owed). Works c.args.plan.now (sight_of w.pass) w.owed.items (sight_of w.pass) l) (c.pop.ensures.items ∙ ap (λ (o : Option Owed). c.pop.new.self.items ++ option_to_list o) c.in_default.is ∙ append-nil c.pop.new.self.items) begins
