@@ -1,5 +1,5 @@
 -- A step that the table made, with what was appended, is done.
-use Rattle.std.proofs.Common.{◌≡◌, ℕ, ◌<◌, ◌≤◌, Bool, cond, is_some, List, [], ◌++◌, map, length, Contains, refl, sym, ap, ◌∙◌, subst}
+use Rattle.std.proofs.Common.{◌≡◌, ℕ, ◌<◌, ◌≤◌, Bool, cond, is_some, List, [], ◌++◌, map, length, sym, ap, ◌∙◌, subst}
 use Rattle.std.specs.List.{All}
 use Rattle.ix_model.specs.declared.sub.Sub.{Sub}
 use Rattle.ix_model.specs.Expansion.Parts.{Parts}
@@ -8,13 +8,11 @@ use Rattle.ix_closure_laws.proofs.ClosedWithin.{desc_within}
 use Rattle.ix_cluster.specs.declared.answers.Arrived.{Arrived}
 use Rattle.ix_cluster.specs.declared.answers.Claimed.{Claimed}
 use Rattle.ix_cluster.specs.declared.cluster.Edge.{Edge as Arc}
-use Rattle.ix_cluster.specs.declared.fact.Fact.{Fact}
 use Rattle.ix_cluster.specs.declared.fact.Fact.TheVariants as fact
 use Rattle.ix_cluster.specs.BankSteps.{Call, Answer, AddEdge, AddEnd, MakeClaim, Opens, Meets, Arrives, Belongs}
 use Rattle.ix_cluster.specs.BankSteps as call
 use Rattle.ix_cluster.specs.ClosedFacts.{IsInClosed}
 use Rattle.ix_cluster.specs.Firsts.{firsts_of}
-use Rattle.ix_cluster.specs.StepAnswers.{answer_to}
 use Rattle.ix_cluster.specs.Steps.{claim_answer, arrival_answer, edge_is_first, edge_answer, end_answer}
 use Rattle.ix_cluster.proofs.Members.{none_has}
 use Rattle.ix_cluster.proofs.StepCases.{step_is}
@@ -25,7 +23,7 @@ use Rattle.ix_closure.specs.Ready.{HasFurther}
 use Rattle.ix_closure.proofs.Due.Readiness.{step_ready}
 use Rattle.ix_table.specs.Sights.{Sight}
 use Rattle.ix_table.specs.TableSteps.{IsStep}
-use Rattle.ix_workers.specs.Done.{IsDone}
+use Rattle.ix_settled_laws.specs.Done.{IsDone}
 
 -- a step for one plan is one for the same plan
 pub for_plan : (p q : Parts) (old : Sight) (c : Call) (answer : Answer) (new : Sight) → p ≡ q → IsStep p old c answer new → IsStep q old c answer new

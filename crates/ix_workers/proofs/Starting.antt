@@ -1,5 +1,5 @@
 -- What the first worker owes at the start.
-use Rattle.std.proofs.Common.{◌≡◌, ℕ, ◌<◌, List, [], Contains, append-nil, refl, sym, ap, ◌∙◌, subst}
+use Rattle.std.proofs.Common.{◌≡◌, List, Contains, refl, subst}
 use Rattle.ix_model.specs.Closure.Closed as closed
 use Rattle.ix_model.specs.Expansion.Parts.{Parts}
 use Rattle.ix_model.specs.Expansion.Planned.{IsPlanned}
@@ -12,7 +12,7 @@ use Rattle.ix_closure.specs.Follows.{fact_of, claims_at, claims_for}
 use Rattle.ix_closure.proofs.Due.FirstSlots.{first_of}
 use Rattle.ix_closure.proofs.Lists.ListMembers.{map_from}
 use Rattle.ix_closure.proofs.Tidying.FirstClaims.{opening_in_order}
-use Rattle.ix_workers.specs.Owing.{OwesClosed}
+use Rattle.ix_settled_laws.specs.Owing.{OwesClosed}
 
 module _ (plan : Parts) (planned : IsPlanned plan) (owed : List Owed) (is : owed ≡ claims_at 0 (firsts_of plan 0)) where
   -- the facts of 64 banks at the start are those of one: only one of them has any

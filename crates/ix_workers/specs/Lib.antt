@@ -1,4 +1,1 @@
-pub mod Done
-pub mod Owing
-pub mod Taking
 pub mod Team

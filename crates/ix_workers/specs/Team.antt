@@ -1,19 +1,18 @@
 -- The workers of one table: how they begin, and what they hand back. It is this project's own.
-use Rattle.std.specs.Prelude.{◌≡◌, ◌<◌, ℕ, List, [], ◌∷◌, ◌++◌, false, Some, slice_get}
+use Rattle.std.specs.Prelude.{◌≡◌, ◌<◌, ℕ, List, [], false, Some, slice_get}
 use Rattle.ix_model.specs.Expansion.Parts.{Parts}
 use Rattle.ix_cluster.specs.Banks.{opening, facts_of}
 use Rattle.ix_cluster.specs.declared.fact.Fact.{Fact}
 use Rattle.ix_closure.specs.declared.owed.Owed.{Owed}
 use Rattle.ix_closure.specs.Follows.{claims_for}
 use Rattle.ix_table.specs.declared.table.Table.{Table}
-use Rattle.ix_rows.specs.Beginnings.{Begins}
-use Rattle.ix_rows.specs.Logs.{log_at}
-use Rattle.ix_table.specs.Sights.{Sight, sight_of}
+use Rattle.ix_table.specs.Sights.{sight_of}
 use Rattle.ix_table.specs.Tables.{PassFits}
+use Rattle.ix_settled_laws.specs.Done.{Works}
+use Rattle.ix_settled_laws.specs.Joined.{Share}
+use Rattle.ix_settled_laws.specs.Owing.{OwesClosed}
 use Rattle.ix_workers.specs.declared.worker.Finished.{Finished}
 use Rattle.ix_workers.specs.declared.worker.Worker.{Worker}
-use Rattle.ix_workers.specs.Done.{Works}
-use Rattle.ix_workers.specs.Owing.{OwesClosed}
 
 -- of each element and its number
 abbrev pub EachAt : {A : Type 0} → (ℕ → A → Type 0) → List A → Type 0
@@ -38,9 +37,6 @@ pub record IsBack (plan : Parts) (table : Table) (worker : Worker) (back : Finis
   pub fits : PassFits table back.pass
   pub works : back.short ≡ false → Works plan (sight_of worker.pass) worker.owed.items (sight_of back.pass) []
 
--- one sight came from another as these passes were joined to it, one after the other: it has the entries of each, and knows
--- at each place what either knew
-pub data Joins (first : Sight) : List Finished → Sight → Type 0 where
-  none : Joins first [] first
-  one_more : (backs : List Finished) (old : Sight) (back : Finished) (new : Sight) → Joins first backs old → new.own ≡ old.own ++ (sight_of back.pass).own
-      → ((m : ℕ) → Begins (log_at new.known m) (log_at old.known m) × Begins (log_at new.known m) (log_at (sight_of back.pass).known m)) → Joins first (backs ++ back ∷ []) new
+-- what a worker hands back that owes nothing
+abbrev pub back_share : Finished → Share
+back_share back = record { sight = sight_of back.pass; owed = [] }

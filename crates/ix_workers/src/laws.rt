@@ -1,16 +1,14 @@
 //! Worked examples of how workers begin and of what comes back of them, each proved: what holds, and beside it what does not.
-ghost use Rattle.std.specs.Prelude.{◌≡◌, ◌++◌, ℕ, true, [], ◌∷◌};
+ghost use Rattle.std.specs.Prelude.{◌≡◌, ℕ, true, [], ◌∷◌};
 ghost use Rattle.ix_model.specs.Expansion.Parts.{Parts};
 ghost use Rattle.ix_examples.specs.SmallPlans.{nothing, two_alternatives};
 ghost use Rattle.ix_closure.specs.declared.owed.Owed.TheVariants.{Claim};
-ghost use Rattle.ix_rows.specs.Beginnings.{Begins};
-ghost use Rattle.ix_rows.specs.Logs.{log_at};
 ghost use Rattle.ix_table.specs.declared.table.Table.{Table};
-ghost use Rattle.ix_table.specs.Sights.{Sight, sight_of};
+ghost use Rattle.ix_table.specs.Sights.{sight_of};
 ghost use Rattle.ix_table.specs.Tables.{PassFits};
 ghost use Rattle.ix_workers.specs.declared.worker.Finished.{Finished};
 ghost use Rattle.ix_workers.specs.declared.worker.Worker.{Worker};
-ghost use Rattle.ix_workers.specs.Team.{EachAt, IsFirstList, IsNew, IsBack, Joins};
+ghost use Rattle.ix_workers.specs.Team.{EachAt, IsFirstList, IsNew, IsBack, back_share};
 
 /// Each element has what is asked of its number, or one has it not.
 pub fn elements_have_their_numbers()
@@ -42,10 +40,9 @@ pub fn passes_come_back()
     ensures of_another_table { (plan : Parts) (table : Table) (w : Worker) (back : Finished) → ¬ (PassFits table back.pass) → ¬ (IsBack plan table w back) }
 {}
 
-/// A pass to which none was joined is as it was, and one more brings its entries and what it knows.
-pub fn joined_passes_bring_entries()
-    ensures nobody { (s : Sight) → Joins s [] s }
-    ensures one { (first last : Sight) (back : Finished) → last.own ≡ first.own ++ (sight_of back.pass).own → ((m : ℕ) → Begins (log_at last.known m) (log_at first.known m) × Begins (log_at last.known m) (log_at (sight_of back.pass).known m)) → Joins first (back ∷ []) last }
-    ensures entry_is_lost { (known : _) (back : Finished) → (sight_of back.pass).own ≡ (0, 3) ∷ [] → ¬ (Joins (record { known = known; own = [] }) (back ∷ []) (record { known = known; own = [] })) }
-    ensures entry_of_nobody { (known : _) → ¬ (Joins (record { known = known; own = [] }) [] (record { known = known; own = (0, 3) ∷ [] })) }
+/// What a worker hands back is what its pass sees.
+pub fn shares_come_back()
+    ensures sight { (back : Finished) → (back_share back).sight ≡ sight_of back.pass }
+    ensures nothing_owed { (back : Finished) → (back_share back).owed ≡ [] }
+    ensures other_sight { (a b : Finished) → (sight_of a.pass).own ≡ [] → (sight_of b.pass).own ≡ (0, 3) ∷ [] → ¬ (back_share a ≡ back_share b) }
 {}

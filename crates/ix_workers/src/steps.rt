@@ -6,12 +6,10 @@ ghost use Rattle.ix_closure.specs.declared.owed.Owed.TheVariants as step;
 ghost use Rattle.ix_closure.specs.Follows.{fact_of};
 ghost use Rattle.ix_table.specs.Sights.{sight_of};
 ghost use Rattle.ix_table.specs.Tables.{PassFits};
-ghost use Rattle.ix_workers.specs.Done.{IsDone};
+ghost use Rattle.ix_settled_laws.specs.Done.{IsDone};
 
 use ix_closure::Owed;
-use ix_closure::follow::{
-    Descriptor, fresh_claim, next_step, push_edges, push_ends, push_opened,
-};
+use ix_closure::follow::{Descriptor, fresh_claim, next_step, push_edges, push_ends, push_opened};
 use ix_cluster::{Claimed, Edge};
 use ix_model::{Plan, Sub};
 use ix_table::{Pass, Table};

@@ -1,5 +1,5 @@
 //! The workers of one table: how they begin, and how their passes come back.
-ghost use Rattle.std.specs.Prelude.{◌≡◌, ◌≤◌, ℕ, vec_len, IfOk, OnOk, Some, slice_get};
+ghost use Rattle.std.specs.Prelude.{◌≡◌, ◌≤◌, ℕ, map, vec_len, IfOk, OnOk, Some, slice_get};
 ghost use Rattle.std.specs.List.{list_any};
 ghost use Rattle.ix_rows.specs.Passes.{IsRoot, IsWhole};
 ghost use Rattle.ix_rows.specs.Views.{left_of};
@@ -7,8 +7,9 @@ ghost use Rattle.ix_table.specs.Sights.{sight_of};
 ghost use Rattle.ix_table.specs.Tables.{PassFits};
 ghost use Rattle.ix_workers.specs.declared.worker.Finished.{Finished as Back};
 ghost use Rattle.ix_workers.specs.declared.worker.Worker.{Worker as Begun};
-ghost use Rattle.ix_workers.specs.Owing.{OwesClosed};
-ghost use Rattle.ix_workers.specs.Team.{EachAt, IsBack, IsFirstList, IsNew, Joins};
+ghost use Rattle.ix_settled_laws.specs.Joined.{Joins};
+ghost use Rattle.ix_settled_laws.specs.Owing.{OwesClosed};
+ghost use Rattle.ix_workers.specs.Team.{EachAt, IsBack, IsFirstList, IsNew, back_share};
 
 use crate::hints::offer_claims;
 use crate::worker::{Finished, Worker, work_off};
@@ -101,12 +102,14 @@ pub(crate) fn run_team<R: Threads + Wait + Sync, G: Gate + Sync>(
     ensures many { IfOk result (λ done. vec_len done ≡ vec_len team) }
     ensures each { IfOk result (λ done. (k : ℕ) (w : Begun) (d : Back) → slice_get team.items k ≡ Some w → slice_get done.items k ≡ Some d → IsBack plan.now table.now w d) }
 {
-    let done = map_vec(rt, team, &|worker: Worker|
-        requires { (table.now.plan.now ≡ plan.now) × PassFits table.now worker.pass × OwesClosed plan.now worker.owed.items }
-        ensures { IsBack plan.entry.now table.entry.now worker result }
-    {
-        work_off(rt, table, plan, gate, worker)
-    })?;
+    let done = map_vec(
+        rt,
+        team,
+        &|worker: Worker|
+            requires { (table.now.plan.now ≡ plan.now) × PassFits table.now worker.pass × OwesClosed plan.now worker.owed.items }
+            ensures { IsBack plan.entry.now table.entry.now worker result }
+        { work_off(rt, table, plan, gate, worker) },
+    )?;
     Ok(done)
 }
 
@@ -123,7 +126,7 @@ pub(crate) fn join_all(table: &Table, root: &mut Pass, done: Vec<Finished>)
     requires done { EachAt (λ k (d : Back). PassFits table.now d.pass) done.items }
     ensures root { PassFits table.now root.new × IsRoot root.new × IsWhole root.new }
     ensures begun { root.new.me.0.begun ≡ root.old.me.0.begun }
-    ensures joins { Joins (sight_of root.old) done.items (sight_of root.new) }
+    ensures joins { Joins (sight_of root.old) (map back_share done.items) (sight_of root.new) }
 {
     for one in done {
         table.join(root, one.pass);

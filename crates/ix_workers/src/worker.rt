@@ -5,8 +5,8 @@ ghost use Rattle.ix_closure.specs.Follows.{fact_of};
 ghost use Rattle.ix_closure.specs.declared.owed.Owed.TheVariants as step;
 ghost use Rattle.ix_table.specs.Sights.{sight_of};
 ghost use Rattle.ix_table.specs.Tables.{PassFits};
-ghost use Rattle.ix_workers.specs.Done.{IsDone, Works};
-ghost use Rattle.ix_workers.specs.Owing.{OwesClosed};
+ghost use Rattle.ix_settled_laws.specs.Done.{IsDone, Works};
+ghost use Rattle.ix_settled_laws.specs.Owing.{OwesClosed};
 
 use crate::hints::offer_claims;
 use crate::steps::{do_claim, do_step};

@@ -42,6 +42,7 @@ fn any_number_of_workers_writes_the_same(rt: HostRuntime) -> Result<(), Fail> {
 const TURN_LIMIT: u64 = 1_000_000_000;
 
 /// Holds the workers 0 and 1 at their first claims until both have come there.
+#[derive(Drop)]
 struct Meeting {
     first: AtomicU64,
     second: AtomicU64,

@@ -1,4 +1,4 @@
-use Rattle.std.proofs.Common.{◌≡◌, ℕ, zero, suc, refl, sym, ◌∙◌, arith}
+use Rattle.std.proofs.Common.{refl, arith}
 use Rattle.ix_workers.proofs.laws.elements_have_their_numbers.Goals as goal
 
 pub returns-clause-one_has_it_not : goal.returns-clause-one_has_it_not

@@ -1,5 +1,4 @@
-use Rattle.std.proofs.Common.{◌≡◌, [], ◌∷◌, List, length, refl, sym, ap, ◌∙◌, arith}
-use Rattle.ix_closure.specs.declared.owed.Owed.{Owed}
+use Rattle.std.proofs.Common.{length, refl, ap, arith}
 use Rattle.ix_workers.proofs.laws.first_worker_owes_the_claims.Goals as goal
 
 pub returns-clause-first : goal.returns-clause-first

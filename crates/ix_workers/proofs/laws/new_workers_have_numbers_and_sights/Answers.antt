@@ -1,4 +1,4 @@
-use Rattle.std.proofs.Common.{[], ◌∷◌, ◌≡◌, ℕ, List, length, sym, ap, ◌∙◌, arith}
+use Rattle.std.proofs.Common.{length, ap, arith}
 use Rattle.ix_table.specs.Sights.{Sight}
 use Rattle.ix_workers.proofs.laws.new_workers_have_numbers_and_sights.Goals as goal
 

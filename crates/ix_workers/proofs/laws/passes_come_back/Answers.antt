@@ -1,4 +1,3 @@
-use Rattle.std.proofs.Common.{◌≡◌, sym, ◌∙◌}
 use Rattle.ix_workers.proofs.laws.passes_come_back.Goals as goal
 
 pub returns-clause-short : goal.returns-clause-short

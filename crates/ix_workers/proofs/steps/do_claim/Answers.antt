@@ -26,7 +26,7 @@ returns-in-Mine-clause-done g c =
     let made = for_plan c.args.table.now.plan.now c.args.plan.now old (MakeClaim d.slot d.left d.pos) (Belongs c.claim.result) new c.requires.plan c.claim.ensures.step in
     on_ok_weaker c.append.result
     (λ e. claim_done c.args.plan.now old new c.args.owed.now.items c.append.new.owed.items d.slot d.left d.pos c.claim.result (cons_option c.next_step.result []) made
-        (subst (λ (z : Claimed). FollowsClaim c.args.plan.now z d.slot d.left d.pos (cons_option c.next_step.result [])) (sym c.in-Mine.is) c.next_step.ensures) e)
+    (subst (λ (z : Claimed). FollowsClaim c.args.plan.now z d.slot d.left d.pos (cons_option c.next_step.result [])) (sym c.in-Mine.is) c.next_step.ensures) e)
     c.append.ensures
 
 pub returns-in-Taken-clause-done : goal.returns-in-Taken-clause-done

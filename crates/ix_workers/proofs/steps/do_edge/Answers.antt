@@ -26,4 +26,4 @@ returns-clause-done g c =
     edge_done c.args.plan.now old new c.args.owed.now.items c.push_ends.new.owed.items k.rule k.at e.slot e.left opened.first opened.ends.items
     (for_plan c.args.table.now.plan.now c.args.plan.now old (AddEdge k.rule k.at e.slot e.left) (Opens opened.first opened.ends.items) new c.requires.plan c.in_ok-opened.ensures.step)
     (two_appends c.push_ends.new.owed.items c.push_opened.new.owed.items c.reserve.new.self.items c.args.owed.now.items opened.first opened.first (claims_at k.at (firsts_of c.args.plan.now k.rule)) (λ z. arrival k.at z e) c.as_slice.result.now opened.ends.items
-     (search rules) (search rules) (search rules) refl (search rules))
+    (search rules) (search rules) (search rules) refl (search rules))

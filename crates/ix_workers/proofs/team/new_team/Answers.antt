@@ -1,6 +1,6 @@
-use Rattle.std.proofs.Common.{rules, arith, ◌≡◌, ◌+◌, ◌++◌, ℕ, List, [], ◌∷◌, length, sym, ap, ◌∙◌, subst}
+use Rattle.std.proofs.Common.{rules, arith, ◌≡◌, ℕ, List, length, sym, ap, ◌∙◌, subst}
 use Rattle.ix_cluster.specs.declared.fact.Fact.{Fact}
-use Rattle.ix_table.specs.Sights.{Sight, sight_of}
+use Rattle.ix_table.specs.Sights.{Sight}
 use Rattle.ix_workers.specs.declared.worker.Worker.{Worker}
 use Rattle.ix_workers.specs.Team.{EachAt, IsNew}
 use Rattle.ix_workers.proofs.Listed.{each_push}

@@ -1,9 +1,4 @@
-use Rattle.std.proofs.Common.{rules, arith, ◌≡◌, sym, ap, ◌∙◌, subst}
-use Rattle.ix_table.specs.Tables.{PassFits}
-use Rattle.ix_workers.specs.declared.worker.Finished.{Finished}
-use Rattle.ix_workers.specs.declared.worker.Worker.{Worker}
-use Rattle.ix_workers.specs.Team.{IsBack}
-use Rattle.ix_workers.proofs.Listed.{read_at, near_at, is_at}
+use Rattle.ix_workers.proofs.Listed.{read_at}
 use Rattle.ix_workers.proofs.team.run_team.Goals as goal
 
 pub map_vec-requires-after_bounds : goal.map_vec-requires-after_bounds

@@ -1,12 +1,12 @@
 use Rattle.std.proofs.Common.{List, subst, lit<, arith}
 use Rattle.ix_closure.specs.declared.owed.Owed.{Owed}
 use Rattle.ix_table.specs.Sights.{sight_of}
-use Rattle.ix_workers.specs.Done.{Works, begins}
+use Rattle.ix_settled_laws.specs.Done.{Works, begins}
 use Rattle.ix_workers.proofs.DoneSteps.{works_on}
 use Rattle.ix_workers.proofs.worker.work_off.Goals as goal
 
 pub loop-init : goal.loop-init
-loop-init g c = record { fits = c.requires.pass; works = begins; closed = c.requires.owed; few = lit< tt; }
+loop-init g c = record { fits = c.requires.pass; works = begins; closed = c.requires.owed; few = lit< tt }
 
 pub loop-preserved-in-Ok-true : goal.loop-preserved-in-Ok-true
 loop-preserved-in-Ok-true g c =

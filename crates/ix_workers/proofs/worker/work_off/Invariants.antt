@@ -1,8 +1,8 @@
 use Rattle.std.proofs.Common.{◌<◌}
 use Rattle.ix_table.specs.Sights.{sight_of}
 use Rattle.ix_table.specs.Tables.{PassFits}
-use Rattle.ix_workers.specs.Done.{Works}
-use Rattle.ix_workers.specs.Owing.{OwesClosed}
+use Rattle.ix_settled_laws.specs.Done.{Works}
+use Rattle.ix_settled_laws.specs.Owing.{OwesClosed}
 use Rattle.ix_workers.proofs.worker.work_off.Given as goal
 
 abbrev pub invariant-loop : goal.invariant-loop
