@@ -75,7 +75,7 @@ pub fn parse<R: Threads + Wait + Sync, G: Gate + Sync>(
 }
 
 // The plan of the grammar for the bytes, where they are a text.
-fn plan_for(alloc: Global, grammar: &Grammar, bytes: &[u8]) -> Result<Plan, ParseFault>
+pub(crate) fn plan_for(alloc: Global, grammar: &Grammar, bytes: &[u8]) -> Result<Plan, ParseFault>
     requires conforming { Conforming grammar.now }
     requires small { size grammar.now ≤ grammar_limit }
     ensures ok { IfOk result (IsPlanFor grammar.now bytes.now) }

@@ -1,7 +1,10 @@
+use crate::parsing::plan_for;
 use crate::{DynFault, Outcome, ParseFault, Refusal, compile, parse, parse_alone};
-use ix_edge::OpenGate;
+use ix_edge::{Gate, OpenGate};
 use ix_model::{Counts, State};
+use ix_workers::work;
 use std::alloc::{AllocError, Global};
+use std::sync::atomic::{AtomicU64, Ordering};
 use std::test::Fail;
 
 #[test]
@@ -129,5 +132,66 @@ fn two_workers_answer_an_ambiguous_sum(rt: HostRuntime) -> Result<(), Fail> {
             })
         )
     );
+    Ok(())
+}
+
+// How many turns a worker waits for the other at most. A turn is one look.
+const TURN_LIMIT: u64 = 1_000_000_000;
+
+/// Holds the workers 0 and 1 at their first claims until both have come there.
+#[derive(Drop)]
+struct Meeting {
+    first: AtomicU64,
+    second: AtomicU64,
+    missed: AtomicU64,
+}
+
+impl Meeting {
+    // Marks one as there, and waits for the other.
+    fn meet(&self, own: &AtomicU64, other: &AtomicU64) {
+        own.store(1, Ordering::SeqCst);
+        for _ in 0..TURN_LIMIT {
+            if other.load(Ordering::SeqCst) == 1 {
+                return;
+            }
+        }
+        self.missed.store(1, Ordering::SeqCst);
+    }
+}
+
+impl Gate for Meeting {
+    fn reach(&self, worker: u32, claims: u64) {
+        if claims > 0 {
+            return;
+        }
+        match worker {
+            0 => self.meet(&self.first, &self.second),
+            1 => self.meet(&self.second, &self.first),
+            _ => {}
+        }
+    }
+}
+
+// One thread alone would wait in vain.
+#[test]
+fn two_workers_of_a_plan_meet(rt: HostRuntime) -> Result<(), Fail> {
+    let alloc = rt.alloc();
+    let Ok(grammar) = compile(alloc, b"S: A; B. A: \"a\"+. B: \"a\"+.") else {
+        panic!(rt; "the grammar conforms");
+    };
+    let text = vec![in alloc; b'a'; 1000]?;
+    let Ok(plan) = plan_for(alloc, &grammar, &text) else {
+        panic!(rt; "the text is UTF-8");
+    };
+    let gate = Meeting {
+        first: AtomicU64::new(0),
+        second: AtomicU64::new(0),
+        missed: AtomicU64::new(0),
+    };
+    let worked = work(&rt, alloc, &plan, 2, &gate)?;
+    assert!(rt; !worked.short);
+    assert_eq!(rt; gate.first.load(Ordering::SeqCst), 1);
+    assert_eq!(rt; gate.second.load(Ordering::SeqCst), 1);
+    assert_eq!(rt; gate.missed.load(Ordering::SeqCst), 0);
     Ok(())
 }
