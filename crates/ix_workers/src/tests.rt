@@ -3,68 +3,13 @@ ghost use Rattle.std.specs.Prelude.{◌≤◌};
 use crate::{close, work};
 use ix_closure::Core;
 use ix_cluster::Banks;
-use ix_edge::{Gate, OpenGate};
+use ix_edge::OpenGate;
 use ix_examples::plans::{cycle, left_recursive, sums};
 use ix_model::Plan;
 use std::alloc::{AllocError, Global};
 use std::sync::Wait;
-use std::sync::atomic::{AtomicU64, Ordering};
 use std::test::Fail;
 use std::thread::Threads;
-
-// How many turns a worker waits for the other at most. A turn is one look.
-const TURN_LIMIT: u64 = 1_000_000_000;
-
-/// Holds the workers 0 and 1 at their first claims until both have come there.
-#[derive(Drop)]
-struct Meeting {
-    first: AtomicU64,
-    second: AtomicU64,
-    missed: AtomicU64,
-}
-
-impl Meeting {
-    // Marks one as there, and waits for the other.
-    fn meet(&self, own: &AtomicU64, other: &AtomicU64) {
-        own.store(1, Ordering::SeqCst);
-        for _ in 0..TURN_LIMIT {
-            if other.load(Ordering::SeqCst) == 1 {
-                return;
-            }
-        }
-        self.missed.store(1, Ordering::SeqCst);
-    }
-}
-
-impl Gate for Meeting {
-    fn reach(&self, worker: u32, claims: u64) {
-        if claims > 0 {
-            return;
-        }
-        match worker {
-            0 => self.meet(&self.first, &self.second),
-            1 => self.meet(&self.second, &self.first),
-            _ => {}
-        }
-    }
-}
-
-#[test]
-fn two_workers_meet(rt: HostRuntime) -> Result<(), Fail> {
-    let alloc = rt.alloc();
-    let plan = left_recursive(alloc, 1000)?;
-    let gate = Meeting {
-        first: AtomicU64::new(0),
-        second: AtomicU64::new(0),
-        missed: AtomicU64::new(0),
-    };
-    let worked = work(&rt, alloc, &plan, 2, &gate)?;
-    assert!(rt; !worked.short);
-    assert!(rt; gate.first.load(Ordering::SeqCst) == 1);
-    assert!(rt; gate.second.load(Ordering::SeqCst) == 1);
-    assert!(rt; gate.missed.load(Ordering::SeqCst) == 0);
-    Ok(())
-}
 
 // How many facts the banks have.
 fn fact_count(banks: &Banks) -> u64 {
@@ -81,7 +26,7 @@ fn facts_alone(alloc: Global, plan: &Plan) -> Result<u64, AllocError> {
     Ok(fact_count(&banks))
 }
 
-// Whether no worker met want of memory, and they left as many facts as one core finds.
+// Whether no worker met want of memory, and they left as many facts as one core finds, and no step to be done.
 fn leave_all<R: Threads + Wait + Sync>(
     rt: &R,
     alloc: Global,
@@ -92,7 +37,12 @@ fn leave_all<R: Threads + Wait + Sync>(
     requires most { workers ≤ 64 }
 {
     let worked = work(rt, alloc, plan, workers, &OpenGate)?;
-    Ok(!worked.short && fact_count(&worked.banks) == facts_alone(alloc, plan)?)
+    if worked.short {
+        return Ok(false);
+    }
+    let count = fact_count(&worked.banks);
+    let core = Core::adopt(alloc, plan, worked.banks).map_err(|_| AllocError)?;
+    Ok(core.owed() == 0 && count == facts_alone(alloc, plan)?)
 }
 
 // The sum of so many ones.

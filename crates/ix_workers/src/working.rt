@@ -1,9 +1,10 @@
 //! The closure of a plan by several workers.
-ghost use Rattle.std.specs.Prelude.{◌≡◌, ◌≤◌, length, IfOk};
+ghost use Rattle.std.specs.Prelude.{◌≡◌, ◌≤◌, false, length, IfOk};
 ghost use Rattle.ix_closure.specs.Closure.{IsClosure};
 ghost use Rattle.ix_cluster.specs.Banks.{facts_of};
 ghost use Rattle.ix_cluster.specs.declared.limits.TheConstants.{BANK_LIMIT};
 ghost use Rattle.ix_cluster.specs.Sound.{AreSound};
+ghost use Rattle.ix_settled_laws.specs.Settled.{IsSettled};
 
 use crate::team::{is_short, join_all, new_team, run_team};
 use ix_closure::Core;
@@ -44,7 +45,11 @@ pub fn work<R: Threads + Wait + Sync, G: Gate + Sync>(
     requires most { workers ≤ 64 }
     ensures sound { IfOk result (λ worked. AreSound plan.now worked.banks.banks.items) }
     ensures many { IfOk result (λ worked. length worked.banks.banks.items ≡ 64) }
+    // No work is lost.
+    ensures settled { IfOk result (λ worked. worked.short ≡ false → IsSettled plan.now worked.banks.banks.items) }
 {
+    // What holds of each plan.
+    let _ = plan.slot_count();
     let (table, mut root) = Table::new(alloc, plan)?;
     let team = new_team(alloc, plan, &table, &mut root, workers)?;
     let done = run_team(rt, plan, &table, gate, team)?;
@@ -73,7 +78,11 @@ pub fn close<R: Threads + Wait + Sync, G: Gate + Sync>(
     ensures sound { IfOk result (λ banks. AreSound plan.now banks.banks.items) }
     ensures few { IfOk result (λ banks. length banks.banks.items ≤ BANK_LIMIT) }
 {
-    let worked = work(rt, alloc, plan, workers, gate)?;
-    let core = Core::adopt(alloc, plan, worked.banks).map_err(|_| AllocError)?;
-    core.finish().map_err(|_| AllocError)
+    let Worked { banks, short } = work(rt, alloc, plan, workers, gate)?;
+    if short {
+        let core = Core::adopt(alloc, plan, banks).map_err(|_| AllocError)?;
+        return core.finish().map_err(|_| AllocError);
+    }
+    // No step is missing: the banks are the closure.
+    Ok(banks)
 }
