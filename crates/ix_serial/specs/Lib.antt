@@ -1,1 +1,4 @@
+pub mod Cursors
+pub mod Lent
 pub mod PieceBytes
+pub mod Units

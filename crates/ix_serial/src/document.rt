@@ -1,35 +1,15 @@
-ghost use Rattle.std.specs.Prelude.{◌≡◌, ◌++◌, ◌∷◌, [], IfOk, string_bytes};
+ghost use Rattle.std.specs.Prelude.{◌≡◌, ◌≤◌, ◌^◌, IfOk, MatchOption, length};
 ghost use Rattle.ix_model.specs.Documents.Dyn.{HasNoRefusal};
 ghost use Rattle.ix_model.specs.Documents.Gives.{Givens};
-ghost use Rattle.ix_model.specs.Documents.Xml.{xml, state_bytes};
+ghost use Rattle.ix_model.specs.Documents.Xml.{xml};
 ghost use Rattle.ix_marks.specs.InRange.{AreIn};
 ghost use Rattle.ix_marks.specs.Standing.{StandsFor};
 
-use crate::writer::Writer;
+use crate::cursor::Cursor;
+use crate::unit::Unit;
 use ix_marks::Marked;
 use ix_model::{Plan, State};
 use std::alloc::{AllocError, Global};
-
-// The words that stand before the attributes of the root.
-fn state_words(state: State) -> &'static str
-    ensures { result.now ≡ state_bytes state }
-{
-    match state {
-        State::Single => "",
-        State::Ambiguous => {
-            " xmlns:ixml=\"http://invisiblexml.org/NS\" ixml:state=\"ambiguous\""
-        }
-    }
-}
-
-// The root is written: a line feed stands behind it.
-fn finished(text: String) -> Result<Vec<u8>, AllocError>
-    ensures { IfOk result (λ document. document.items ≡ string_bytes text ++ 10 ∷ []) }
-{
-    let mut text = text;
-    text.push('\n')?;
-    Ok(text.into_bytes())
-}
 
 /// The document of the marked tree, in UTF-8 (XML 1.0). An element without content is written as one tag, and attributes stand
 /// in the order of their nodes. Where the text is ambiguous, the root says so before its own attributes (Invisible XML 1.0,
@@ -52,12 +32,32 @@ pub fn bytes(
     // It is the document of all that the marked tree stands for.
     ensures { IfOk result (λ v. (gs : Givens) → StandsFor plan.now.rules.names marked.now gs → v.items ≡ xml gs state) }
 {
-    let mut writer = Writer::new(alloc);
-    let mut words = state_words(state);
-    for item in marked.items() {
-        writer.put(plan, marked, words, *item)?;
-        // The root alone has them.
-        words = "";
+    let mut text = String::new(alloc);
+    let mut cursor = Cursor::new(state);
+    while let Some(unit) = cursor.next(plan, marked) {
+        match unit {
+            Unit::Char(c) => text.push(c)?,
+            Unit::Markup(markup) => text.push_str(markup)?,
+        }
     }
-    finished(writer.text)
+    Ok(text.into_bytes())
+}
+
+/// How many bytes the document of the marked tree has. None is made, and no memory is taken. `None` comes exactly where they are
+/// 2 to the power of 64 or more. The conditions are those of `bytes`.
+pub fn size(plan: &Plan, marked: &Marked, state: State) -> Option<u64>
+    requires there { AreIn plan.now.rules.names marked.now }
+    requires document { (gs : Givens) × StandsFor plan.now.rules.names marked.now gs × HasNoRefusal gs }
+    ensures { (gs : Givens) → StandsFor plan.now.rules.names marked.now gs → MatchOption result (2 ^ 64 ≤ length (xml gs state)) (λ n. n ≡ length (xml gs state)) }
+{
+    let mut count: u64 = 0;
+    let mut cursor = Cursor::new(state);
+    while let Some(unit) = cursor.next(plan, marked) {
+        let more = match unit {
+            Unit::Char(c) => c.len_utf8(),
+            Unit::Markup(markup) => markup.len(),
+        };
+        count = count.checked_add(more as u64)?;
+    }
+    Some(count)
 }

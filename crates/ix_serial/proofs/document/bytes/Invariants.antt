@@ -1,13 +1,12 @@
-use Rattle.std.proofs.Common.{◌≡◌, ◌++◌, false, drop, map, string_bytes}
-use Rattle.ix_model.specs.Documents.Xml.{state_bytes}
-use Rattle.ix_marks.specs.Meaning.{piece_of}
-use Rattle.ix_serial.specs.PieceBytes.{pieces_bytes}
+use Rattle.std.proofs.Common.{◌≡◌, ◌++◌, length, string_bytes}
+use Rattle.std.specs.List.{concat}
+use Rattle.ix_serial.specs.Cursors.{IsWithin, beginning, rest}
 use Rattle.ix_serial.proofs.document.bytes.Given as goal
-use denote.Shadow.{shadow}
-use denote.Text.{Utf8}
 
-abbrev pub invariant-loop-item : goal.invariant-loop-item
-invariant-loop-item l =
-    shadow (Utf8 l.words)
-    × (string_bytes l.writer.text ++ pieces_bytes l.words l.writer.tag_open (map (piece_of l.plan.rules.names l.marked.attrs l.marked.chars) (drop l.item-index l.marked.items))
-    ≡ pieces_bytes (state_bytes l.fn.state) false (map (piece_of l.plan.rules.names l.marked.attrs l.marked.chars) l.marked.items))
+abbrev pub invariant-loop-unit : goal.invariant-loop-unit
+invariant-loop-unit l =
+    IsWithin l.plan.rules.names l.marked l.cursor
+    × (string_bytes l.text ++ concat (rest l.plan.rules.names l.marked l.cursor) ≡ concat (rest l.plan.rules.names l.marked (beginning l.fn.state)))
+
+abbrev pub decreases-loop-unit : goal.decreases-loop-unit
+decreases-loop-unit l = length (rest l.plan.rules.names l.marked l.cursor)
