@@ -1,12 +1,11 @@
 -- What is read in one step, and what is left.
-use Rattle.std.proofs.Common.{◌≡◌, ◌+◌, ◌-◌, ◌<◌, ◌≤◌, refl, ap, sym, ◌∙◌, ℕ, suc, Bool, List, [], ◌∷◌, ◌++◌, append_assoc, arith, length, drop, take, map, get_or, nat_lt, true, false, slice_index}
+use Rattle.std.proofs.Common.{◌≡◌, ◌+◌, ◌-◌, ◌<◌, ◌≤◌, refl, ap, sym, ◌∙◌, ℕ, zero, suc, Bool, List, [], ◌∷◌, ◌++◌, append_assoc, arith, length, drop, take, map, get_or, nat_lt, true, false, slice_index}
 use Rattle.std.specs.Prelude.{codes, if◌then◌else◌}
-use Rattle.std.specs.List.{flat_map}
+use Rattle.std.specs.List.{flat_map, AllByRecursion}
 use Rattle.std.proofs.lemmas.Bool.{ltb-false}
 use Rattle.std.proofs.lemmas.List.{drop_more, at_drop_more}
 use Rattle.ix_model.specs.declared.state.State.{State}
 use Rattle.ix_model.specs.Documents.Xml.{content_bytes, value_bytes, state_bytes}
-use Rattle.ix_marks.specs.declared.item.Attr.{Attr}
 use Rattle.ix_marks.specs.declared.item.Item as item
 use Rattle.ix_marks.specs.declared.item.Item.TheVariants as item_is
 use Rattle.ix_marks.specs.MarkedLists.{MarkedLists}
@@ -17,7 +16,13 @@ use Rattle.ix_serial.specs.declared.cursor.Cursor.{Cursor}
 use Rattle.ix_serial.specs.Cursors.{rest, attr_at, name_of, items_from, attributes_from, place_rest, place_from, run_from}
 use Rattle.ix_serial.specs.Units.{name_units, attribute_units, document_units}
 
--- ---- ranges
+-- ---- elements and ranges
+
+-- what holds of each element holds of the one at a place
+pub each_at : {X : Type 0} (P : X → Type 0) (xs : List X) (i : ℕ) (d : X) → i < length xs → AllByRecursion P xs → P (get_or xs i d)
+each_at P [] i d l h = absurd (omega (arith, l))
+each_at P (x ∷ xs) zero d l h = h.0
+each_at P (x ∷ xs) (suc i) d l h = each_at P xs i d (omega (arith, l)) h.1
 
 -- the first of a range, and the others
 pub range_more : {X : Type 0} (xs : List X) (low high : ℕ) (d : X) → low < high → high ≤ length xs → range_of xs low high ≡ get_or xs low d ∷ range_of xs (low + 1) high

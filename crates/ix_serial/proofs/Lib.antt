@@ -1,3 +1,4 @@
 pub mod CursorSteps
 pub mod Documents
+pub mod Going
 pub mod SmallDocuments

@@ -1,6 +1,6 @@
 -- What of a document is still to be read, by how far it is read.
 -- Source: this project's own.
-use Rattle.std.specs.Prelude.{ℕ, ◌+◌, ◌<◌, ◌≤◌, Bool, true, false, List, [], ◌∷◌, ◌++◌, codes, map, drop, length, get_or, nat_lt, if◌then◌else◌}
+use Rattle.std.specs.Prelude.{ℕ, ◌+◌, ◌<◌, ◌≤◌, Bool, false, List, [], ◌∷◌, ◌++◌, codes, map, drop, length, get_or, nat_lt, if◌then◌else◌}
 use Rattle.std.specs.List.{flat_map}
 use Rattle.ix_model.specs.declared.state.State.{State}
 use Rattle.ix_model.specs.declared.state.State.TheVariants.{Single}

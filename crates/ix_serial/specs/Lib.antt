@@ -1,4 +1,4 @@
 pub mod Cursors
+pub mod Examples
 pub mod Lent
-pub mod PieceBytes
 pub mod Units

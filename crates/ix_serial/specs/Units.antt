@@ -5,7 +5,6 @@ use Rattle.std.specs.Prelude.{ℕ, Bool, true, false, List, [], ◌∷◌, ◌++
 use Rattle.std.specs.List.{flat_map}
 use Rattle.ix_model.specs.Documents.Xml.{content_bytes, value_bytes}
 use Rattle.ix_marks.specs.Pieces.{Attribute, Piece, start_tag, end_tag, characters}
-use Rattle.ix_serial.specs.PieceBytes.{opens_tag}
 use Rattle.ix_serial.specs.declared.unit.Unit.{Unit}
 use Rattle.ix_serial.specs.declared.unit.Unit.TheVariants.{Char, Markup}
 
@@ -32,6 +31,12 @@ piece_units words tag_open (start_tag name ats) = start_mark tag_open ∷ (name_
 piece_units words true (end_tag name) = codes "/>" ∷ []
 piece_units words false (end_tag name) = codes "</" ∷ (name_units name ++ (codes ">" ∷ []))
 piece_units words tag_open (characters cs) = (if tag_open then codes ">" ∷ [] else []) ++ map content_bytes cs
+
+-- whether a start tag is open behind the piece
+abbrev pub opens_tag : Piece → Bool
+opens_tag (start_tag name ats) = true
+opens_tag (end_tag name) = false
+opens_tag (characters cs) = false
 
 -- the words that are left behind a piece: the first start tag has them
 abbrev pub words_behind : (words : List ℕ) → Piece → List ℕ

@@ -252,7 +252,14 @@ impl Cursor {
     }
 
     // In the name of an attribute. Behind it comes its value.
-    fn attribute_name(&mut self, plan: &Plan, marked: &Marked, attr: u64, high: u64, at: u64) -> Unit
+    fn attribute_name(
+        &mut self,
+        plan: &Plan,
+        marked: &Marked,
+        attr: u64,
+        high: u64,
+        at: u64,
+    ) -> Unit
         requires there { AreIn plan.now.rules.names marked.now }
         requires place { self.old.place ≡ place.AttributeName attr high at }
         requires within { IsWithin plan.now.rules.names marked.now self.old }

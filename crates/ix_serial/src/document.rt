@@ -53,11 +53,7 @@ pub fn size(plan: &Plan, marked: &Marked, state: State) -> Option<u64>
     let mut count: u64 = 0;
     let mut cursor = Cursor::new(state);
     while let Some(unit) = cursor.next(plan, marked) {
-        let more = match unit {
-            Unit::Char(c) => c.len_utf8(),
-            Unit::Markup(markup) => markup.len(),
-        };
-        count = count.checked_add(more as u64)?;
+        count = count.checked_add(unit.len() as u64)?;
     }
     Some(count)
 }

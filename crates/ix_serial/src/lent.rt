@@ -46,10 +46,19 @@ pub fn write<O: Sink>(
     while let Some(unit) = cursor.next(plan, marked) {
         filled = put_unit(out, buffer, filled, unit)?;
     }
-    if filled > 0 {
-        out.put(&buffer[..filled])?;
+    flush(out, buffer, filled)
+}
+
+// Puts what the buffer holds, if it holds anything.
+fn flush<O: Sink>(out: &mut O, buffer: &[u8], filled: usize) -> Result<(), Failed>
+    requires { filled ≤ length buffer.now }
+    ensures bytes { Puts (O.written out.old) (O.written out.new) (take filled buffer.now) result }
+    ensures cause { HasCause (O.faults out.old) (O.faults out.new) result }
+{
+    if filled == 0 {
+        return Ok(());
     }
-    Ok(())
+    out.put(&buffer[..filled])
 }
 
 // Puts a unit. Markup is ASCII, so each of its bytes is a character.

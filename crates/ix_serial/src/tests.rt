@@ -4,7 +4,8 @@ ghost use Rattle.ix_examples.specs.SmallPlans.{only_a as a_alone};
 ghost use Rattle.ix_marks.specs.InRange.{AreIn};
 ghost use Rattle.ix_marks.specs.Standing.{StandsFor};
 
-use crate::{bytes, failed_bytes};
+use crate::{bytes, failed_bytes, size, write};
+use ix_edge::MemSink;
 use ix_examples::plans::only_a;
 use ix_marks::{Marked, marked};
 use ix_model::{Mark, Plan, State, Step};
@@ -38,6 +39,29 @@ fn an_ambiguous_root_says_so(rt: HostRuntime) -> Result<(), Fail> {
     let expected: &[u8] =
         b"<S xmlns:ixml=\"http://invisiblexml.org/NS\" ixml:state=\"ambiguous\">&amp;</S>\n";
     assert_eq!(rt; document.as_slice(), expected);
+    Ok(())
+}
+
+#[test]
+fn a_document_goes_through_sixteen_bytes(rt: HostRuntime) -> Result<(), Fail> {
+    let alloc = rt.alloc();
+    let plan = only_a(alloc, &['&'])?;
+    let tree = ampersand_tree(alloc, &plan)?;
+    let mut out = MemSink::new(alloc, 64, Vec::new(alloc), 0)?;
+    let mut buffer = [0; 16];
+    let written = write(&plan, &tree, State::Single, &mut out, &mut buffer);
+    let expected: &[u8] = b"<S>&amp;</S>\n";
+    assert_eq!(rt; written.is_ok(), true);
+    assert_eq!(rt; out.bytes(), expected);
+    Ok(())
+}
+
+#[test]
+fn a_document_has_its_size(rt: HostRuntime) -> Result<(), Fail> {
+    let alloc = rt.alloc();
+    let plan = only_a(alloc, &['&'])?;
+    let tree = ampersand_tree(alloc, &plan)?;
+    assert_eq!(rt; size(&plan, &tree, State::Single), Some(13));
     Ok(())
 }
 

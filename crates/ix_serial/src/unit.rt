@@ -1,5 +1,5 @@
 //! What a document is made of.
-ghost use Rattle.std.specs.Prelude.{◌≡◌};
+ghost use Rattle.std.specs.Prelude.{◌≡◌, length};
 ghost use Rattle.ix_model.specs.Documents.Xml.{content_bytes, value_bytes};
 ghost use Rattle.ix_serial.specs.Units.{unit_bytes};
 
@@ -8,6 +8,18 @@ ghost use Rattle.ix_serial.specs.Units.{unit_bytes};
 pub(crate) enum Unit {
     Char(char),
     Markup(&'static str),
+}
+
+impl Unit {
+    /// How many bytes it has.
+    pub(crate) fn len(self) -> usize
+        ensures { result ≡ length (unit_bytes self) }
+    {
+        match self {
+            Unit::Char(c) => c.len_utf8(),
+            Unit::Markup(markup) => markup.len(),
+        }
+    }
 }
 
 /// A character of the content.
