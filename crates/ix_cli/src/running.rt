@@ -20,15 +20,15 @@ use std::thread::Threads;
 /// Runs the command that the words after the program's name spell, by as many workers as it asks for, and gives its exit
 /// status. Each worker passes the gate before each of its claims, where there are two or more.
 ///
-/// To `out` go: for `parse` the document, in pieces of 65,536 bytes at most, or the failed document; for `check` the line `ok`;
-/// for `sample` the four lines of figures. All but a document goes in one put. One line goes to `msg` where nothing goes to
-/// `out`, or not all. The status is the first of these that applies:
-/// 2 where the words have no form; 7 where the grammar could not be read; 3 where it is refused (G01 to G09), or 5 where it
-/// is not UTF-8; and for `parse` 7 where the text could not be read; 6 where it has more than 16,777,216 bytes; 5 where it is
-/// not UTF-8; 1 where it has no derivation, with the failed document; 4 where what its first derivation gives is no document
-/// (E01 to E06); else 0, or 8 where the output could not be written. `sample` reads no file. Want of memory, with status 9,
-/// may come at any call before the first put, and after it never. At a status other than 0, 1 and 8 nothing is written to `out`.
-/// A fault of `msg` changes nothing.
+/// To `out` go: for `parse` the document, in pieces of 65,536 bytes at most, or the failed document; for `check` the line
+/// `ok`; for `sample` the four lines of figures. All but a document goes in one put. One line goes to `msg` where nothing
+/// goes to `out`, or not all. The status is the first of these that applies: 2 where the words have no form; 7 where the
+/// grammar could not be read; 3 where it is refused (G01 to G09), or 5 where it is not UTF-8; and for `parse` 7 where the
+/// text could not be read; 6 where it has more than 16,777,216 bytes; 5 where it is not UTF-8; 1 where it has no
+/// derivation, with the failed document; 4 where what its first derivation gives is no document (E01 to E06); else 0, or 8
+/// where the output could not be written. `sample` reads no file. Want of memory, with status 9, may come at any call
+/// before the first put, and after it never. At a status other than 0, 1 and 8 nothing is written to `out`. A fault of
+/// `msg` changes nothing.
 ///
 /// Neither the number of workers nor their order changes anything of this. They wait for each other, so that this call
 /// returns is not promised.
