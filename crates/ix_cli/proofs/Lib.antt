@@ -9,6 +9,7 @@ pub mod Preparing
 pub mod Refusing
 pub mod Replies
 pub mod SmallChecks
+pub mod SmallContents
 pub mod SmallFigures
 pub mod SmallReplies
 pub mod SmallSamples

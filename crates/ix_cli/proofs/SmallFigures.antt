@@ -14,6 +14,7 @@ use Rattle.ix_worked_examples.proofs.SmallRules.{plan_of_a}
 use Rattle.ix_engine.specs.Examples.{a_counts}
 use Rattle.ix_engine.proofs.SmallCounts.{counts_on_a}
 use Rattle.ix_answer_laws.proofs.OneAnswer.{measured_once}
+use Rattle.ix_cli.specs.declared.output.Content.TheVariants.{Bytes}
 use Rattle.ix_cli.specs.Shown.{Shows}
 use Rattle.ix_cli.proofs.SmallReplies.{a_answered, one_document}
 
@@ -41,5 +42,5 @@ module _ (o : Outcome) (h : Measured only_a (codes "a") o) where
   pub measured_status : status_of o ≡ 0
   measured_status = sym (ap status_of the_figures)
 
-pub ok_shown : (v : Vec ℕ Global) → v.items ≡ codes "ok\n" → Shows conforms (record { status = 0; bytes = v })
+pub ok_shown : (v : Vec ℕ Global) → v.items ≡ codes "ok\n" → Shows conforms (record { status = 0; content = Bytes v })
 ok_shown v e = record { status = refl; bytes = e; some = omega arith; silent = refl }

@@ -189,10 +189,12 @@ unfolding first_or
 begins_same zero x xs = refl
 begins_same (suc n) x xs = refl
 
-pub not_another_front : ¬ (CutOff (codes "S"))
+pub no_front : (n : ℕ) → codes "S" ≡ take n (codes "<S>a</S>\n") → ⊥
 unfolding first_or
-not_another_front (o, r, some, n, a) =
-    omega (arith, ap (first_or 60) (a ∙ ap (take n) (the_output o r)) ∙ begins_same n 60 (codes "S>a</S>\n"))
+no_front n e = omega (arith, ap (first_or 60) e ∙ begins_same n 60 (codes "S>a</S>\n"))
+
+pub not_another_front : ¬ (CutOff (codes "S"))
+not_another_front (o, r, some, n, a) = no_front n (a ∙ ap (take n) (the_output o r))
 
 -- a grammar that is refused has no output
 pub no_output : ¬ (IsCutOff parse_g_t (Some (holding [] [])) (Some []) (Some []))

@@ -1,5 +1,6 @@
 pub mod Answered
 pub mod Causes
+pub mod Contents
 pub mod Delivered
 pub mod Examples
 pub mod Laws

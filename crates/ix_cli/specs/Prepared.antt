@@ -13,6 +13,7 @@ use Rattle.ix_cli.specs.declared.task.Prepared.{Prepared}
 use Rattle.ix_cli.specs.declared.task.Prepared.TheVariants as prepared
 use Rattle.ix_cli.specs.declared.task.Task.{Task}
 use Rattle.ix_cli.specs.declared.task.Wanted.TheVariants.{Document, Figures}
+use Rattle.ix_cli.specs.Contents.{IsWritable}
 use Rattle.ix_cli.specs.Loaded.{Holds}
 use Rattle.ix_cli.specs.Shown.{Shows}
 use Rattle.ix_cli.specs.Unread.{HoldsSome}
@@ -35,7 +36,7 @@ pub record IsReady (task : Task) : Type 0 where
   pub least : 1 ≤ task.workers
   pub most : task.workers ≤ 64
 
--- it is, where a text is to be parsed
-abbrev pub IsReadyIfParsed : Prepared → Type 0
-IsReadyIfParsed (prepared.Output output) = Unit {0}
-IsReadyIfParsed (prepared.Parse task) = IsReady task
+-- what the next step asks for is there: what a write does of an output, and what a parse does of a text
+abbrev pub IsReadied : Prepared → Type 0
+IsReadied (prepared.Output output) = IsWritable output.content
+IsReadied (prepared.Parse task) = IsReady task

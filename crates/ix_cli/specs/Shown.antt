@@ -9,12 +9,13 @@ use Rattle.ix_edge.specs.Told.{Told, held}
 use Rattle.ix_cli.specs.declared.output.Output.{Output}
 use Rattle.ix_cli.specs.declared.task.Wanted.{Wanted}
 use Rattle.ix_cli.specs.declared.task.Wanted.TheVariants.{Document, Figures}
+use Rattle.ix_cli.specs.Contents.{HasBytes}
 use Rattle.ix_cli.specs.Table.{IsReply}
 
 -- the status and the bytes are the outcome's, which has some bytes and no message
 pub record Shows (o : Outcome) (output : Output) : Type 0 where
   pub status : output.status ≡ status_of o
-  pub bytes : output.bytes.items ≡ output_of o
+  pub bytes : HasBytes output.content (output_of o)
   pub some : 0 < length (output_of o)
   pub silent : message_of o ≡ []
 

@@ -4,7 +4,7 @@ ghost use Rattle.std.specs.Prelude.{◌≡◌, ◌≤◌, ℕ, List, Option, IfO
 ghost use Rattle.ix_edge.specs.Told.{Told};
 ghost use Rattle.ix_model.specs.Answers.CommandLine.{Command as Asked, parse, check, sample, IsCommand};
 ghost use Rattle.ix_words.specs.Asked.{asked};
-ghost use Rattle.ix_cli.specs.Prepared.{IsPreparedFor, IsReadyIfParsed};
+ghost use Rattle.ix_cli.specs.Prepared.{IsPreparedFor, IsReadied};
 ghost use Rattle.ix_cli.specs.Refused.{IsRefused, IsRefusedFor};
 
 use crate::answer::Answer;
@@ -23,7 +23,7 @@ pub fn prepared<F: Files>(
     words: &[String],
     files: &mut F,
 ) -> Result<Prepared, Answer>
-    ensures ready { IfOk result IsReadyIfParsed }
+    ensures ready { IfOk result IsReadied }
     ensures ok { IfOk result (λ p. (command : Asked) × IsCommand (map string_bytes words.now) command × IsPreparedFor (F.told files.old) command p) }
     ensures err { IfErr result (IsRefused (map string_bytes words.now) (F.told files.old) (F.faults files.old) (F.faults files.new)) }
     ensures sample { (lines workers : ℕ) → IsCommand (map string_bytes words.now) (sample lines workers) → IfErr result (λ a. a ≡ Answer.Memory) }
@@ -40,7 +40,7 @@ fn prepared_for<F: Files>(
     files: &mut F,
 ) -> Result<Prepared, Answer>
     requires { (words : List (List ℕ)) × IsCommand words (asked command.now) }
-    ensures ready { IfOk result IsReadyIfParsed }
+    ensures ready { IfOk result IsReadied }
     ensures ok { IfOk result (IsPreparedFor (F.told files.old) (asked command.now)) }
     ensures err { IfErr result (IsRefusedFor (asked command.now) (F.told files.old) (F.faults files.old) (F.faults files.new)) }
     ensures sample { (lines workers : ℕ) → asked command.now ≡ sample lines workers → IfErr result (λ a. a ≡ Answer.Memory) }
@@ -68,7 +68,7 @@ fn loaded<F: Files>(
 ) -> Result<Prepared, Answer>
     requires least { 1 ≤ workers }
     requires most { workers ≤ 64 }
-    ensures ready { IfOk result IsReadyIfParsed }
+    ensures ready { IfOk result IsReadied }
     ensures ok { IfOk result (IsPreparedFor (F.told files.old) (parse grammar.now text.now workers)) }
     ensures err { IfErr result (IsRefusedFor (parse grammar.now text.now workers) (F.told files.old) (F.faults files.old) (F.faults files.new)) }
     ensures same { F.told files.new ≡ F.told files.old }
@@ -86,7 +86,7 @@ fn loaded<F: Files>(
 
 // The line for a file that holds a conforming grammar.
 fn checked<F: Files>(alloc: Global, grammar: &str, files: &mut F) -> Result<Prepared, Answer>
-    ensures ready { IfOk result IsReadyIfParsed }
+    ensures ready { IfOk result IsReadied }
     ensures ok { IfOk result (IsPreparedFor (F.told files.old) (check grammar.now)) }
     ensures err { IfErr result (IsRefusedFor (check grammar.now) (F.told files.old) (F.faults files.old) (F.faults files.new)) }
     ensures same { F.told files.new ≡ F.told files.old }
@@ -102,7 +102,7 @@ fn sampled(alloc: Global, lines: u32, workers: u32) -> Result<Prepared, Answer>
     requires limited { lines ≤ 10000 }
     requires least { 1 ≤ workers }
     requires most { workers ≤ 64 }
-    ensures ready { IfOk result IsReadyIfParsed }
+    ensures ready { IfOk result IsReadied }
     ensures ok { (files : Option Told) → IfOk result (IsPreparedFor files (sample lines workers)) }
     ensures err { IfErr result (λ a. a ≡ Answer.Memory) }
 {

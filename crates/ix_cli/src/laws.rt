@@ -20,20 +20,22 @@ ghost use Rattle.ix_examples.specs.SmallGrammars.{only_a};
 ghost use Rattle.ix_sample_laws.specs.SampleRules.{sample_rules};
 ghost use Rattle.ix_words.specs.declared.command.WordsFault.TheVariants as words;
 ghost use Rattle.ix_cli.specs.declared.answer.Answer.TheVariants as answer;
+ghost use Rattle.ix_cli.specs.declared.output.Content.TheVariants as content;
 ghost use Rattle.ix_cli.specs.declared.output.Output.{Output};
 ghost use Rattle.ix_cli.specs.declared.task.Prepared.TheVariants as prepared;
 ghost use Rattle.ix_cli.specs.declared.task.Task.{Task};
 ghost use Rattle.ix_cli.specs.declared.task.Wanted.TheVariants as wanted;
 ghost use Rattle.ix_cli.specs.Answered.{IsAnswered, IsCutOff, IsMessage};
 ghost use Rattle.ix_cli.specs.Causes.{Parses, IsChecked, IsCaused};
+ghost use Rattle.ix_cli.specs.Contents.{HasBytes, IsWritable};
 ghost use Rattle.ix_cli.specs.Delivered.{IsDelivered};
-ghost use Rattle.ix_cli.specs.Examples.{sample_1, holding, without_text, raised, no_count, outside, none_told};
+ghost use Rattle.ix_cli.specs.Examples.{sample_1, holding, without_text, raised, no_count, outside, none_told, a_content, unnamed_content, bare_content};
 ghost use Rattle.ix_cli.specs.Laws.{ReplyIsOne, ReplyIsCaused};
 ghost use Rattle.ix_cli.specs.Lines.{read_line, memory_line, write_line};
 ghost use Rattle.ix_cli.specs.Loaded.{Holds, IsLoadFault, IsGrammarFault};
 ghost use Rattle.ix_cli.specs.Means.{of_words, of_refusal, of_fault};
 ghost use Rattle.ix_cli.specs.Named.{HasCommand, ReadsGrammar, ReadsText, Names};
-ghost use Rattle.ix_cli.specs.Prepared.{IsPreparedFor, IsReady, IsReadyIfParsed};
+ghost use Rattle.ix_cli.specs.Prepared.{IsPreparedFor, IsReady, IsReadied};
 ghost use Rattle.ix_cli.specs.Refused.{IsRefusedFor, IsRefused};
 ghost use Rattle.ix_cli.specs.Replied.{IsReplied};
 ghost use Rattle.ix_cli.specs.Runs.{IsRun};
@@ -146,8 +148,8 @@ pub fn samples_that_are_measured()
 
 /// A sample ends with its figures, or memory runs out.
 pub fn results_of_a_sample()
-    ensures figures { (v : Vec ℕ Global) → IsSampled (Ok (record { status = 0; bytes = v })) }
-    ensures not_failed { (v : Vec ℕ Global) → ¬ (IsSampled (Ok (record { status = 1; bytes = v }))) }
+    ensures figures { (v : Vec ℕ Global) → IsSampled (Ok (record { status = 0; content = content.Bytes v })) }
+    ensures not_failed { (v : Vec ℕ Global) → ¬ (IsSampled (Ok (record { status = 1; content = content.Bytes v }))) }
     ensures memory { IsSampled (Err answer.Memory) }
     ensures no_words { ¬ (IsSampled (Err answer.Words)) }
     ensures not_refused { (r : Refusal) → ¬ (IsSampled (Err (answer.Grammar r))) }
@@ -284,48 +286,74 @@ pub fn what_refusals_mean()
     ensures text { of_fault fault.TooLong ≡ answer.Text fault.TooLong }
 {}
 
+/// Bytes that are there are those and no others. A document has those of what its marked tree stands for, whatever stands in
+/// its buffer.
+pub fn bytes_of_contents()
+    ensures bytes { (v : Vec ℕ Global) → v.items ≡ codes "ok\n" → HasBytes (content.Bytes v) (codes "ok\n") }
+    ensures other_bytes { (v : Vec ℕ Global) → v.items ≡ codes "ok" → ¬ (HasBytes (content.Bytes v) (codes "ok\n")) }
+    ensures document { (v : Vec ℕ Global) → HasBytes (a_content v) (codes "<S>a</S>\n") }
+    ensures not_the_buffer { (v : Vec ℕ Global) → v.items ≡ codes "<S/>\n" → ¬ (HasBytes (a_content v) (codes "<S/>\n")) }
+    ensures shorter { (v : Vec ℕ Global) → ¬ (HasBytes (a_content v) (codes "<S>a</S>")) }
+{}
+
+/// A document is written of a marked tree that names what is there and stands for one element, through 16 bytes or more. Bytes
+/// need nothing.
+pub fn contents_that_can_be_written()
+    ensures bytes { (v : Vec ℕ Global) → IsWritable (content.Bytes v) }
+    ensures document { (v : Vec ℕ Global) → length v.items ≡ 16 → IsWritable (a_content v) }
+    ensures small_buffer { (v : Vec ℕ Global) → length v.items ≡ 15 → ¬ (IsWritable (a_content v)) }
+    ensures no_name { (v : Vec ℕ Global) → ¬ (IsWritable (unnamed_content v)) }
+    ensures no_element { (v : Vec ℕ Global) → ¬ (IsWritable (bare_content v)) }
+{}
+
 /// What goes to the output has the status and all the bytes of its outcome.
 pub fn outputs_of_an_outcome()
-    ensures document { (v : Vec ℕ Global) → v.items ≡ codes "<S>a</S>\n" → Shows (document (element_with (text_of (codes "a"))) Single) (record { status = 0; bytes = v }) }
-    ensures not_failed { (v : Vec ℕ Global) → ¬ (Shows (document (element_with (text_of (codes "a"))) Single) (record { status = 1; bytes = v })) }
-    ensures not_shorter { (v : Vec ℕ Global) → v.items ≡ codes "<S>a</S>" → ¬ (Shows (document (element_with (text_of (codes "a"))) Single) (record { status = 0; bytes = v })) }
-    ensures failed { (v : Vec ℕ Global) → v.items ≡ codes "<fail xmlns:ixml=\"http://invisiblexml.org/NS\" ixml:state=\"failed\" offset=\"1\" line=\"1\" column=\"2\"/>\n" → Shows (failed 1 1 2) (record { status = 1; bytes = v }) }
-    ensures no_output { (v : Vec ℕ Global) → ¬ (Shows no_grammar (record { status = 3; bytes = v })) }
-    ensures conforms { (v : Vec ℕ Global) → v.items ≡ codes "ok\n" → Shows conforms (record { status = 0; bytes = v }) }
-    ensures no_line_feed { (v : Vec ℕ Global) → v.items ≡ codes "ok" → ¬ (Shows conforms (record { status = 0; bytes = v })) }
-    ensures figures { (v : Vec ℕ Global) → v.items ≡ codes "text 5\ndescriptors 35\nsubtrees 13\noutput 40\n" → Shows (summarised 5 (record { descriptors = 35; subtrees = 13 }) 40) (record { status = 0; bytes = v }) }
+    ensures document { (v : Vec ℕ Global) → v.items ≡ codes "<S>a</S>\n" → Shows (document (element_with (text_of (codes "a"))) Single) (record { status = 0; content = content.Bytes v }) }
+    ensures not_failed { (v : Vec ℕ Global) → ¬ (Shows (document (element_with (text_of (codes "a"))) Single) (record { status = 1; content = content.Bytes v })) }
+    ensures not_shorter { (v : Vec ℕ Global) → v.items ≡ codes "<S>a</S>" → ¬ (Shows (document (element_with (text_of (codes "a"))) Single) (record { status = 0; content = content.Bytes v })) }
+    ensures failed { (v : Vec ℕ Global) → v.items ≡ codes "<fail xmlns:ixml=\"http://invisiblexml.org/NS\" ixml:state=\"failed\" offset=\"1\" line=\"1\" column=\"2\"/>\n" → Shows (failed 1 1 2) (record { status = 1; content = content.Bytes v }) }
+    ensures tree { (v : Vec ℕ Global) → Shows (document (element_with (text_of (codes "a"))) Single) (record { status = 0; content = a_content v }) }
+    ensures not_ambiguous { (v : Vec ℕ Global) → ¬ (Shows (document (element_with (text_of (codes "a"))) Ambiguous) (record { status = 0; content = a_content v })) }
+    ensures no_output { (v : Vec ℕ Global) → ¬ (Shows no_grammar (record { status = 3; content = content.Bytes v })) }
+    ensures conforms { (v : Vec ℕ Global) → v.items ≡ codes "ok\n" → Shows conforms (record { status = 0; content = content.Bytes v }) }
+    ensures no_line_feed { (v : Vec ℕ Global) → v.items ≡ codes "ok" → ¬ (Shows conforms (record { status = 0; content = content.Bytes v })) }
+    ensures figures { (v : Vec ℕ Global) → v.items ≡ codes "text 5\ndescriptors 35\nsubtrees 13\noutput 40\n" → Shows (summarised 5 (record { descriptors = 35; subtrees = 13 }) 40) (record { status = 0; content = content.Bytes v }) }
 {}
 
 /// A text shows its document or its failed document; where its figures are asked for, these in place of the document.
 pub fn outputs_of_a_text()
-    ensures document { (v : Vec ℕ Global) → v.items ≡ codes "<S>a</S>\n" → ShowsWanted wanted.Document only_a (codes "a") (record { status = 0; bytes = v }) }
-    ensures no_figures { (v : Vec ℕ Global) → v.items ≡ codes "text 1\ndescriptors 2\nsubtrees 1\noutput 9\n" → ¬ (ShowsWanted wanted.Document only_a (codes "a") (record { status = 0; bytes = v })) }
-    ensures figures { (v : Vec ℕ Global) → v.items ≡ codes "text 1\ndescriptors 2\nsubtrees 1\noutput 9\n" → ShowsWanted wanted.Figures only_a (codes "a") (record { status = 0; bytes = v }) }
-    ensures other_figures { (v : Vec ℕ Global) → v.items ≡ codes "text 1\ndescriptors 1\nsubtrees 2\noutput 9\n" → ¬ (ShowsFigures only_a (codes "a") (record { status = 0; bytes = v })) }
-    ensures no_document { (v : Vec ℕ Global) → v.items ≡ codes "<S>a</S>\n" → ¬ (ShowsWanted wanted.Figures only_a (codes "a") (record { status = 0; bytes = v })) }
-    ensures failed { (v : Vec ℕ Global) → v.items ≡ codes "<fail xmlns:ixml=\"http://invisiblexml.org/NS\" ixml:state=\"failed\" offset=\"1\" line=\"1\" column=\"2\"/>\n" → ShowsFigures only_a (codes "ab") (record { status = 1; bytes = v }) }
-    ensures not_failed { (v : Vec ℕ Global) → ¬ (ShowsFigures only_a (codes "a") (record { status = 1; bytes = v })) }
+    ensures document { (v : Vec ℕ Global) → v.items ≡ codes "<S>a</S>\n" → ShowsWanted wanted.Document only_a (codes "a") (record { status = 0; content = content.Bytes v }) }
+    ensures no_figures { (v : Vec ℕ Global) → v.items ≡ codes "text 1\ndescriptors 2\nsubtrees 1\noutput 9\n" → ¬ (ShowsWanted wanted.Document only_a (codes "a") (record { status = 0; content = content.Bytes v })) }
+    ensures figures { (v : Vec ℕ Global) → v.items ≡ codes "text 1\ndescriptors 2\nsubtrees 1\noutput 9\n" → ShowsWanted wanted.Figures only_a (codes "a") (record { status = 0; content = content.Bytes v }) }
+    ensures other_figures { (v : Vec ℕ Global) → v.items ≡ codes "text 1\ndescriptors 1\nsubtrees 2\noutput 9\n" → ¬ (ShowsFigures only_a (codes "a") (record { status = 0; content = content.Bytes v })) }
+    ensures no_document { (v : Vec ℕ Global) → v.items ≡ codes "<S>a</S>\n" → ¬ (ShowsWanted wanted.Figures only_a (codes "a") (record { status = 0; content = content.Bytes v })) }
+    ensures failed { (v : Vec ℕ Global) → v.items ≡ codes "<fail xmlns:ixml=\"http://invisiblexml.org/NS\" ixml:state=\"failed\" offset=\"1\" line=\"1\" column=\"2\"/>\n" → ShowsFigures only_a (codes "ab") (record { status = 1; content = content.Bytes v }) }
+    ensures not_failed { (v : Vec ℕ Global) → ¬ (ShowsFigures only_a (codes "a") (record { status = 1; content = content.Bytes v })) }
 {}
 
 /// A command shows what the table has for it. What is refused shows nothing.
 pub fn outputs_of_a_command()
-    ensures checked { (v : Vec ℕ Global) → v.items ≡ codes "ok\n" → ShowsCommand (check (codes "g")) (without_text one_way) (record { status = 0; bytes = v }) }
+    ensures checked { (v : Vec ℕ Global) → v.items ≡ codes "ok\n" → ShowsCommand (check (codes "g")) (without_text one_way) (record { status = 0; content = content.Bytes v }) }
     ensures not_checked { (output : Output) → ¬ (ShowsCommand (check (codes "g")) (holding [] []) output) }
-    ensures not_parsed { (v : Vec ℕ Global) → v.items ≡ codes "ok\n" → ¬ (ShowsCommand (parse (codes "g") (codes "t") 2) (holding one_way (codes "a")) (record { status = 0; bytes = v })) }
-    ensures reply { (v : Vec ℕ Global) → v.items ≡ codes "ok\n" → ShowsReply check_g (without_text one_way) (record { status = 0; bytes = v }) }
+    ensures not_parsed { (v : Vec ℕ Global) → v.items ≡ codes "ok\n" → ¬ (ShowsCommand (parse (codes "g") (codes "t") 2) (holding one_way (codes "a")) (record { status = 0; content = content.Bytes v })) }
+    ensures reply { (v : Vec ℕ Global) → v.items ≡ codes "ok\n" → ShowsReply check_g (without_text one_way) (record { status = 0; content = content.Bytes v }) }
     ensures no_words { (output : Output) → ¬ (ShowsReply [] (holding one_way (codes "a")) output) }
 {}
 
 /// An output is written whole and without a line; or its front is, where the output's count rose; or nothing, with the line
 /// of want of memory.
 pub fn outputs_that_are_written()
-    ensures whole { (v : Vec ℕ Global) → v.items ≡ codes "<S/>" → IsWritten (Some []) (Some (codes "<S/>")) 0 0 (Some []) (Some []) 0 0 (record { status = 0; bytes = v }) 0 }
-    ensures no_line { (v : Vec ℕ Global) → ¬ (IsWritten (Some []) (Some (codes "<S/>")) 0 0 (Some []) (Some write_line) 0 0 (record { status = 0; bytes = v }) 0) }
-    ensures not_twice { (v : Vec ℕ Global) → v.items ≡ codes "<S/>" → ¬ (IsWritten (Some []) (Some (codes "<S/><S/>")) 0 0 (Some []) (Some []) 0 0 (record { status = 0; bytes = v }) 0) }
-    ensures front { (v : Vec ℕ Global) → v.items ≡ codes "<S/>" → IsWritten (Some []) (Some (codes "<S")) 0 1 (Some []) (Some write_line) 0 0 (record { status = 0; bytes = v }) 8 }
-    ensures not_risen { (v : Vec ℕ Global) → ¬ (IsWritten (Some []) (Some (codes "<S")) 0 0 (Some []) (Some write_line) 0 0 (record { status = 0; bytes = v }) 8) }
-    ensures nothing { (v : Vec ℕ Global) → IsWritten (Some []) (Some []) 0 0 (Some []) (Some memory_line) 0 0 (record { status = 0; bytes = v }) 9 }
-    ensures not_something { (v : Vec ℕ Global) → ¬ (IsWritten (Some []) (Some (codes "<")) 0 0 (Some []) (Some memory_line) 0 0 (record { status = 0; bytes = v }) 9) }
+    ensures whole { (v : Vec ℕ Global) → v.items ≡ codes "<S/>" → IsWritten (Some []) (Some (codes "<S/>")) 0 0 (Some []) (Some []) 0 0 (record { status = 0; content = content.Bytes v }) 0 }
+    ensures no_line { (v : Vec ℕ Global) → ¬ (IsWritten (Some []) (Some (codes "<S/>")) 0 0 (Some []) (Some write_line) 0 0 (record { status = 0; content = content.Bytes v }) 0) }
+    ensures not_twice { (v : Vec ℕ Global) → v.items ≡ codes "<S/>" → ¬ (IsWritten (Some []) (Some (codes "<S/><S/>")) 0 0 (Some []) (Some []) 0 0 (record { status = 0; content = content.Bytes v }) 0) }
+    ensures front { (v : Vec ℕ Global) → v.items ≡ codes "<S/>" → IsWritten (Some []) (Some (codes "<S")) 0 1 (Some []) (Some write_line) 0 0 (record { status = 0; content = content.Bytes v }) 8 }
+    ensures tree { (v : Vec ℕ Global) → IsWritten (Some []) (Some (codes "<S>a</S>\n")) 0 0 (Some []) (Some []) 0 0 (record { status = 0; content = a_content v }) 0 }
+    ensures no_tree { (v : Vec ℕ Global) → ¬ (IsWritten (Some []) (Some []) 0 0 (Some []) (Some []) 0 0 (record { status = 0; content = a_content v }) 0) }
+    ensures front_of_tree { (v : Vec ℕ Global) → IsWritten (Some []) (Some (codes "<S>")) 0 1 (Some []) (Some write_line) 0 0 (record { status = 0; content = a_content v }) 8 }
+    ensures another_front { (v : Vec ℕ Global) → ¬ (IsWritten (Some []) (Some (codes "S")) 0 1 (Some []) (Some write_line) 0 0 (record { status = 0; content = a_content v }) 8) }
+    ensures not_risen { (v : Vec ℕ Global) → ¬ (IsWritten (Some []) (Some (codes "<S")) 0 0 (Some []) (Some write_line) 0 0 (record { status = 0; content = content.Bytes v }) 8) }
+    ensures nothing { (v : Vec ℕ Global) → IsWritten (Some []) (Some []) 0 0 (Some []) (Some memory_line) 0 0 (record { status = 0; content = content.Bytes v }) 9 }
+    ensures not_something { (v : Vec ℕ Global) → ¬ (IsWritten (Some []) (Some (codes "<")) 0 0 (Some []) (Some memory_line) 0 0 (record { status = 0; content = content.Bytes v }) 9) }
 {}
 
 /// Status and output are those of the table, and what a fault of the output leaves is the front of its document.
@@ -366,7 +394,7 @@ pub fn commands_that_are_prepared()
     ensures no_grammar { (task : Task) → ¬ (IsPreparedFor (Some (holding [] (codes "a"))) (parse (codes "g") (codes "t") 2) (prepared.Parse task)) }
     ensures other_workers { (v : Vec ℕ Global) → ¬ (IsPreparedFor (Some (holding one_way (codes "a"))) (parse (codes "g") (codes "t") 2) (prepared.Parse (record { grammar = only_a; text = v; workers = 3; wanted = wanted.Document }))) }
     ensures no_figures { (v : Vec ℕ Global) → ¬ (IsPreparedFor (Some (holding one_way (codes "a"))) (parse (codes "g") (codes "t") 2) (prepared.Parse (record { grammar = only_a; text = v; workers = 2; wanted = wanted.Figures }))) }
-    ensures check { (v : Vec ℕ Global) → v.items ≡ codes "ok\n" → IsPreparedFor (Some (without_text one_way)) (check (codes "g")) (prepared.Output (record { status = 0; bytes = v })) }
+    ensures check { (v : Vec ℕ Global) → v.items ≡ codes "ok\n" → IsPreparedFor (Some (without_text one_way)) (check (codes "g")) (prepared.Output (record { status = 0; content = content.Bytes v })) }
     ensures not_checked { (output : Output) → ¬ (IsPreparedFor (Some (holding [] [])) (check (codes "g")) (prepared.Output output)) }
     ensures not_parsed { (task : Task) → ¬ (IsPreparedFor (Some (without_text one_way)) (check (codes "g")) (prepared.Parse task)) }
     ensures sample { (v : Vec ℕ Global) → v.items ≡ codes "1:ab\n" → IsPreparedFor None (sample 1 2) (prepared.Parse (record { grammar = sample_rules; text = v; workers = 2; wanted = wanted.Figures })) }
@@ -376,10 +404,10 @@ pub fn commands_that_are_prepared()
 /// A text can be parsed by 1 to 64 workers.
 pub fn tasks_that_are_ready()
     ensures one { (v : Vec ℕ Global) → IsReady (record { grammar = only_a; text = v; workers = 1; wanted = wanted.Document }) }
-    ensures all { (v : Vec ℕ Global) → IsReadyIfParsed (prepared.Parse (record { grammar = only_a; text = v; workers = 64; wanted = wanted.Figures })) }
+    ensures all { (v : Vec ℕ Global) → IsReadied (prepared.Parse (record { grammar = only_a; text = v; workers = 64; wanted = wanted.Figures })) }
     ensures none { (v : Vec ℕ Global) → ¬ (IsReady (record { grammar = only_a; text = v; workers = 0; wanted = wanted.Document })) }
-    ensures too_many { (v : Vec ℕ Global) → ¬ (IsReadyIfParsed (prepared.Parse (record { grammar = only_a; text = v; workers = 65; wanted = wanted.Document }))) }
-    ensures no_text { (output : Output) → IsReadyIfParsed (prepared.Output output) }
+    ensures too_many { (v : Vec ℕ Global) → ¬ (IsReadied (prepared.Parse (record { grammar = only_a; text = v; workers = 65; wanted = wanted.Document }))) }
+    ensures no_text { (v : Vec ℕ Global) → IsReadied (prepared.Output (record { status = 0; content = content.Bytes v })) }
 {}
 
 /// Words have the table's output, or a refusal with its cause.
@@ -387,14 +415,14 @@ pub fn replies_to_words()
     ensures words { IsReplied [] (Some (holding one_way [])) no_count no_count (Err answer.Words) }
     ensures not_words { ¬ (IsReplied parse_g_t (Some (holding one_way [])) no_count no_count (Err answer.Words)) }
     ensures no_words { (output : Output) → ¬ (IsReplied [] None no_count no_count (Ok output)) }
-    ensures no_status { (v : Vec ℕ Global) → ¬ (IsReplied parse_g_t None no_count no_count (Ok (record { status = 4; bytes = v }))) }
-    ensures shorter { (v : Vec ℕ Global) → v.items ≡ codes "<S>a</S>" → ¬ (IsReplied parse_g_t (Some (holding one_way (codes "a"))) no_count no_count (Ok (record { status = 0; bytes = v }))) }
+    ensures no_status { (v : Vec ℕ Global) → ¬ (IsReplied parse_g_t None no_count no_count (Ok (record { status = 4; content = content.Bytes v }))) }
+    ensures shorter { (v : Vec ℕ Global) → v.items ≡ codes "<S>a</S>" → ¬ (IsReplied parse_g_t (Some (holding one_way (codes "a"))) no_count no_count (Ok (record { status = 0; content = content.Bytes v }))) }
     ensures sample { ¬ (IsReplied sample_1 None no_count no_count (Err (answer.Grammar refusal.NotIxml))) }
 {}
 
 /// A refusal says its line and writes nothing.
 pub fn answers_that_are_delivered()
-    ensures whole { (v : Vec ℕ Global) → v.items ≡ codes "<S/>" → IsDelivered (Some []) (Some (codes "<S/>")) 0 0 (Some []) (Some []) 0 0 (Ok (record { status = 0; bytes = v })) 0 }
+    ensures whole { (v : Vec ℕ Global) → v.items ≡ codes "<S/>" → IsDelivered (Some []) (Some (codes "<S/>")) 0 0 (Some []) (Some []) 0 0 (Ok (record { status = 0; content = content.Bytes v })) 0 }
     ensures line { IsDelivered (Some []) (Some []) 0 0 (Some []) (Some memory_line) 0 0 (Err answer.Memory) 9 }
     ensures other_line { ¬ (IsDelivered (Some []) (Some []) 0 0 (Some []) (Some write_line) 0 0 (Err answer.Memory) 9) }
     ensures other_status { ¬ (IsDelivered (Some []) (Some []) 0 0 (Some []) (Some memory_line) 0 0 (Err answer.Memory) 0) }

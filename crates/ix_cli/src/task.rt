@@ -20,7 +20,7 @@ pub struct Task {
 }
 
 /// What a command comes to before any text is parsed.
-#[derive(Debug, Drop)]
+#[derive(Drop)]
 pub enum Prepared {
     /// All that goes to the output: no text is parsed.
     Output(Output),

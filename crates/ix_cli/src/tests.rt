@@ -369,7 +369,7 @@ fn refuses_grammars_by_depth_and_length(rt: HostRuntime) -> Result<(), Fail> {
     Ok(())
 }
 
-// A text that is not UTF-8, and a put that fails: a whole document is one put, and so is a failed one.
+// A text that is not UTF-8, and a put that fails: a short document is one put, and so is a failed one.
 #[test]
 fn tells_a_text_that_is_none_and_a_write_that_fails(rt: HostRuntime) -> Result<(), Fail> {
     let alloc = rt.alloc();

@@ -1,9 +1,9 @@
-use Rattle.std.proofs.Common.{◌≡◌, ◌≤◌, refl, sym, ap, length, arith}
+use Rattle.std.proofs.Common.{◌≡◌, ◌≤◌, refl, sym, ap, ◌∙◌, length, arith}
 use mathlib.Core.Logic.{inl, inr}
 use Rattle.ix_cli.proofs.laws.answers_that_are_delivered.Goals as goal
 
 pub returns-clause-whole : goal.returns-clause-whole
-returns-clause-whole c v e = inl (refl, sym e, refl)
+returns-clause-whole c v e = inl (refl, (λ bytes h. sym e ∙ h), refl)
 
 pub returns-clause-line : goal.returns-clause-line
 returns-clause-line c = (refl, inl (refl, λ n. refl), λ e. absurd (omega (arith, e)))

@@ -31,4 +31,4 @@ pub returns-clause-too_many : goal.returns-clause-too_many
 returns-clause-too_many c v h = omega (arith, h.most)
 
 pub returns-clause-no_text : goal.returns-clause-no_text
-returns-clause-no_text c output = tt
+returns-clause-no_text c v = tt
