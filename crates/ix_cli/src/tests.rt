@@ -3,6 +3,7 @@ ghost use Rattle.ix_edge.specs.Entries.{names_differ};
 
 mod asked;
 mod checks;
+mod hostile;
 mod long;
 mod recorded;
 mod samples;

@@ -101,6 +101,26 @@ fn answers_texts_or_says_why_not(rt: HostRuntime) -> Result<(), Fail> {
     Ok(())
 }
 
+#[test]
+fn counts_what_a_long_text_takes(rt: HostRuntime) -> Result<(), Fail> {
+    let alloc = rt.alloc();
+    let text = vec![in alloc; b'a'; 1_000_000]?;
+    assert!(rt;
+        matches!(
+            answer(alloc, b"S: S, \"a\"; .", &text),
+            Ok(Outcome::Tree {
+                state: State::Single,
+                counts: Counts {
+                    descriptors: 2_000_003,
+                    subtrees: 2_000_001
+                },
+                ..
+            })
+        )
+    );
+    Ok(())
+}
+
 // So many ones with a plus sign between them.
 fn sum(alloc: Global, ones: usize) -> Result<Vec<u8>, AllocError> {
     let mut text = Vec::from_slice(alloc, b"1")?;

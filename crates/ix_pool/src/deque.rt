@@ -3,13 +3,20 @@ ghost use Rattle.std.specs.Prelude.{◌≡◌};
 use crate::{Deck, Hint};
 use crossbeam_deque::{Steal, Stealer, Worker};
 
+/// How many hints a deque holds at most.
+///
+/// A hint soon grows old, since whoever offers it is on the way to that claim itself. More of them would only keep its
+/// takers busy with claims that are done, its own worker among them.
+pub(crate) const ROOM: usize = 64;
+
 #[derive(Drop)]
 enum End {
     Own(Worker<Hint>),
     Other(Stealer<Hint>),
 }
 
-/// A worker's own deque, first in first out, or a stealer of another worker's.
+/// A worker's own deque, first in first out, or a stealer of another worker's. It holds 64 hints at most, and drops what is
+/// put beyond them.
 ///
 /// Nothing is claimed of the hints that it holds.
 #[derive(Drop)]
@@ -70,7 +77,9 @@ impl Deck for Deque {
     fn put(&mut self, hint: Hint) {
         match &mut self.end {
             End::Own(worker) => {
-                let _ = worker.push(hint);
+                if worker.len() < ROOM {
+                    let _ = worker.push(hint);
+                }
             }
             End::Other(_) => {}
         }

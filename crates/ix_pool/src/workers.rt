@@ -1,12 +1,10 @@
 ghost use Rattle.std.specs.Prelude.{◌≡◌, ◌≤◌, ◌<◌, ◌++◌, false, map, replicate, length, vec_len, IfOk, OnOk};
 ghost use Rattle.ix_pool.specs.Hands.{is_own, misses_of, IsNewHand, AreNewHands};
 
+use crate::deque::ROOM;
 use crate::{Deque, Hand, Hint};
 use crossbeam_deque::{Stealer, Worker};
 use std::alloc::{AllocError, Global};
-
-// How many hints a new deque has room for.
-const FIRST_ROOM: usize = 64;
 
 /// One hand for each worker, in the order of their numbers. Each has a deck for each worker: its own deque, and stealers
 /// of the others'. No deck has missed yet.
@@ -38,7 +36,7 @@ fn deques(
     let mut owns = Vec::new(alloc);
     let mut stealers = Vec::new(alloc);
     for _ in 0..workers {
-        let worker = Worker::new_fifo(alloc, FIRST_ROOM)?;
+        let worker = Worker::new_fifo(alloc, ROOM)?;
         stealers.push(worker.stealer()?)?;
         owns.push(worker)?;
     }

@@ -89,3 +89,12 @@ fn closed_banks_have_all(rt: HostRuntime) -> Result<(), Fail> {
     assert!(rt; fact_count(&banks) == 73);
     Ok(())
 }
+
+#[test]
+fn a_long_text_takes_so_many_facts(rt: HostRuntime) -> Result<(), Fail> {
+    let alloc = rt.alloc();
+    let plan = left_recursive(alloc, 1_000_000)?;
+    // A call and its edge, 1,000,001 ends, 2,000,003 descriptors and as many claims, and 2,000,002 subtrees.
+    assert!(rt; facts_alone(alloc, &plan)? == 7_000_011);
+    Ok(())
+}

@@ -133,6 +133,16 @@ fn turn<R: Wait, G: Gate>(
     Ok(true)
 }
 
+// Rests where nothing is owed: after a hint whose claim brought nothing. Others are at that work then, and to claim on at
+// once would only stand in the way of their locks.
+fn rest(backoff: &Backoff, idle: bool) {
+    if idle {
+        backoff.snooze();
+    } else {
+        backoff.reset();
+    }
+}
+
 // Goes on until the list is empty and no hint was given many times in a row, or until there is no memory.
 pub(crate) fn work_off<R: Wait, G: Gate>(
     rt: &R,
@@ -154,7 +164,7 @@ pub(crate) fn work_off<R: Wait, G: Gate>(
         match turn(rt, table, plan, gate, &mut worker) {
             Ok(true) => {
                 misses = 0;
-                backoff.reset();
+                rest(&backoff, worker.owed.is_empty());
             }
             Ok(false) => {
                 misses += 1;

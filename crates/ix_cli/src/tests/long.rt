@@ -116,3 +116,19 @@ fn writes_a_long_document_in_pieces(rt: HostRuntime) -> Result<(), Fail> {
     }
     Ok(())
 }
+
+#[test]
+fn writes_a_million_levels(rt: HostRuntime) -> Result<(), Fail> {
+    let alloc = rt.alloc();
+    let text = vec![in alloc; b'a'; 1_000_000]?;
+    let entries = entries(alloc, b"S: S, \"a\"; .", &text)?;
+    let mut files = MemFiles::new(entries, Vec::new(alloc));
+    let mut out = MemSink::new(alloc, 8_000_005, Vec::new(alloc), 0)?;
+    let mut msg = MemSink::new(alloc, 128, Vec::new(alloc), 0)?;
+    let words = words(alloc, "parse g t")?;
+    assert_eq!(rt; run_alone(alloc, &words, &mut files, &mut out, &mut msg), 0);
+    let document = nested(alloc, 1_000_000)?;
+    assert!(rt; document.as_slice() == out.bytes());
+    assert_eq!(rt; msg.bytes(), b"".as_slice());
+    Ok(())
+}
