@@ -8,6 +8,7 @@ mod lines;
 mod made;
 mod rules;
 mod source;
+mod terminals;
 mod walk;
 
 pub use rules::expand;

@@ -3,17 +3,18 @@
 ghost use Rattle.std.specs.Prelude.{◌≡◌, ◌+◌, ◌<◌, ◌≤◌, ◌^◌, [], length, IfOk, OnOk};
 ghost use Rattle.ix_expand.specs.Growth.{begun, finished, with_terminal, with_insert};
 
+use crate::terminals::Terminals;
 use ix_model::{Flat, Kind, Terminal, Text};
 use sqlite_items::Items;
 use std::alloc::{AllocError, Global};
 
 /// The helper rules, terminals and insertions that the walk has made so far.
-#[derive(Debug, Drop)]
+#[derive(Drop)]
 pub struct Made {
     /// The number of the first helper.
     pub first: usize,
     pub flats: Items<Flat>,
-    pub terminals: Items<Terminal>,
+    pub terminals: Terminals,
     pub inserts: Items<Text>,
 }
 
@@ -25,7 +26,7 @@ impl Made {
         Made {
             first,
             flats: Items::new(alloc),
-            terminals: Items::new(alloc),
+            terminals: Terminals::new(alloc),
             inserts: Items::new(alloc),
         }
     }

@@ -47,7 +47,7 @@ pub fn expand(alloc: Global, grammar: &Grammar) -> Result<Rules, AllocError>
         names: names_of_rules(alloc, rules)?,
         marks: marks_of_rules(alloc, rules)?,
         flats,
-        terminals,
+        terminals: terminals.into_items(),
         inserts,
     })
 }

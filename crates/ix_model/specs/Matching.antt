@@ -3,4 +3,5 @@ pub mod Classes
 pub mod Codes
 pub mod Ranges
 pub mod Sets
+pub mod SharedRanges
 pub mod Terminals

@@ -5,6 +5,7 @@ use Rattle.ix_model.specs.declared.grammar.Grammar.{Grammar}
 use Rattle.ix_model.specs.declared.grammar.Factor.{Factor}
 use Rattle.ix_model.specs.declared.grammar.Rule.{Rule}
 use Rattle.ix_model.specs.declared.rules.Flat.{Flat}
+use Rattle.ix_model.specs.declared.rules.Terminal.{Terminal}
 use Rattle.ix_model.specs.Documents.Bare.{effective}
 use Rattle.ix_model.specs.Expansion.Expanded.{RulesBecome, Expanded}
 use Rattle.ix_model.specs.Grammars.Factors.{factors_of_alt}
@@ -52,7 +53,9 @@ returns-clause-expanded c =
     let names = c.in_ok-names_of_rules.ensures ∙ ap (map (λ (rule : Rule). rule.name)) same in
     let marks = c.in_ok-marks_of_rules.ensures ∙ ap (map (λ (rule : Rule). effective None rule.mark)) same in
     let all = whole g made named c.in_ok-names_of_rules.field-0 c.in_ok-marks_of_rules.field-0 names marks (c.in_ok-flats.ensures.count ∙ long) h in
-    subst (λ (flats : List Flat). Expanded g (record (together g made named c.in_ok-names_of_rules.field-0 c.in_ok-marks_of_rules.field-0) { flats = flats })) (symm c.in_ok-append.ensures) all
+    let rules_made = together g made named c.in_ok-names_of_rules.field-0 c.in_ok-marks_of_rules.field-0 in
+    subst (λ (terminals : List Terminal). Expanded g (record rules_made { flats = c.append.new.self; terminals = terminals })) (symm c.into_items.ensures)
+    (subst (λ (flats : List Flat). Expanded g (record rules_made { flats = flats })) (symm c.in_ok-append.ensures) all)
 
 pub returns-clause-slots : goal.returns-clause-slots
 returns-clause-slots c =

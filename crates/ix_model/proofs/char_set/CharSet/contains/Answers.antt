@@ -11,7 +11,7 @@ use Rattle.ix_model.proofs.char_set.CharSet.contains.Goals as goal
 pub returns-in-Some : goal.returns-in-Some
 returns-in-Some c =
     let apart : AreApart c.args.self.now = subst AreApart c.self.view_is c.self.invariant in
-    let same : c.as_slice-ranges.result.now ≡ c.args.self.now = c.as_slice-ranges.ensures.value ∙ c.self.view_is in
+    let same : c.as_slice-ranges.result.now ≡ c.args.self.now = c.as_slice-ranges.ensures ∙ c.self.view_is in
     let split = subst (λ (xs : List CharRange). IsPartitionedBy (λ (r : CharRange). nat_lt r.high c.args.c) xs) (sym same) (parted c.args.c c.args.self.now apart) in
     let point = IsPartitionPoint-from_clause (λ (r : CharRange). nat_lt r.high c.args.c) _ _ c.partition_point-before.ensures.partitioned split (λ a r q k. search rules) in
     let there = subst (λ (xs : List CharRange). IsPartitionPoint (λ (r : CharRange). nat_lt r.high c.args.c ≡ true) (λ (r : CharRange). nat_lt r.high c.args.c ≡ false) xs c.partition_point-before.result) same point in
@@ -20,7 +20,7 @@ returns-in-Some c =
 pub returns-in-None : goal.returns-in-None
 returns-in-None c =
     let apart : AreApart c.args.self.now = subst AreApart c.self.view_is c.self.invariant in
-    let same : c.as_slice-ranges.result.now ≡ c.args.self.now = c.as_slice-ranges.ensures.value ∙ c.self.view_is in
+    let same : c.as_slice-ranges.result.now ≡ c.args.self.now = c.as_slice-ranges.ensures ∙ c.self.view_is in
     let split = subst (λ (xs : List CharRange). IsPartitionedBy (λ (r : CharRange). nat_lt r.high c.args.c) xs) (sym same) (parted c.args.c c.args.self.now apart) in
     let point = IsPartitionPoint-from_clause (λ (r : CharRange). nat_lt r.high c.args.c) _ _ c.partition_point-before.ensures.partitioned split (λ a r q k. search rules) in
     let there = subst (λ (xs : List CharRange). IsPartitionPoint (λ (r : CharRange). nat_lt r.high c.args.c ≡ true) (λ (r : CharRange). nat_lt r.high c.args.c ≡ false) xs c.partition_point-before.result) same point in
