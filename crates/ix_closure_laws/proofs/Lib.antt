@@ -4,5 +4,6 @@ pub mod ClosedWithin
 pub mod FlatWidths
 pub mod Frames
 pub mod Reaching
+pub mod SmallParts
 pub mod TreesClosed
 pub mod TwoTrees

@@ -1,5 +1,5 @@
 -- All derivations of the small texts of the worked examples.
-use Rattle.std.proofs.Common.{◌≡◌, refl, ap, sym, subst, ◌⊎◌, ◌≤◌, ℕ, List, [], ◌∷◌, length, codes, arith}
+use Rattle.std.proofs.Common.{◌≡◌, refl, ap, sym, subst, ◌⊎◌, ◌≤◌, ℕ, List, [], ◌∷◌, None, length, codes, arith}
 use mathlib.Core.Logic.{inl, inr}
 use Rattle.ix_model.specs.declared.grammar.Grammar.{Grammar}
 use Rattle.ix_model.specs.declared.grammar.Alt.{Alt}
@@ -98,7 +98,7 @@ around_or_a s d (a, terms, ds, p, o, all) = by_number (one_of_two s_alone a_alon
     by_number : ((a ≡ 0) × (s_alone ≡ terms)) ⊎ ((a ≡ 1) × (a_alone ≡ terms)) → ((e : Tree) × (d ≡ node_of 0 0 e) × (1 ≤ height e)) ⊎ (d ≡ node_of 0 1 (text 0 (length s)))
     by_number (inl (n, e)) =
         let h = one_derived cycle s ds (call (codes "S")) 0 (length s) (subst (λ ts. DerivesAll cycle s ds ts 0 (length s)) (sym e) all) in
-        let y = call_is_node cycle s h.0 (codes "S") 0 (length s) h.2 in
+        let y = call_is_node cycle s h.0 None (codes "S") 0 (length s) h.2 in
         inl (h.0, cc (p, n, h.1), subst (λ x. 1 ≤ height x) (sym y.4) (omega arith))
     by_number (inr (n, e)) =
         let h = one_derived cycle s ds (quoted (codes "a")) 0 (length s) (subst (λ ts. DerivesAll cycle s ds ts 0 (length s)) (sym e) all) in

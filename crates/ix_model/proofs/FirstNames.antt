@@ -1,5 +1,5 @@
 -- The first of a list that passes a test, and names by their numbers.
-use Rattle.std.proofs.Common.{◌≡◌, ◌≢◌, refl, ap, sym, ◌∙◌, subst, ℕ, ◌≤◌, ◌+◌, List, [], ◌∷◌, ◌++◌, length, get_or, Option, Some, None, arith, add-zero}
+use Rattle.std.proofs.Common.{◌≡◌, ◌≢◌, refl, ap, sym, ◌∙◌, ℕ, ◌≤◌, ◌+◌, List, [], ◌∷◌, ◌++◌, length, get_or, Option, Some, None, arith, add-zero}
 use Rattle.std.specs.Prelude.{Bool, true, false, cond, nat_lt, slice_get, is_some, IfSome, IfNone}
 use Rattle.std.specs.List.{position_from, position_or_len}
 use Rattle.std.specs.Option.{option_or, option_map}

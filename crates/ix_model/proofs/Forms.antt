@@ -1,5 +1,5 @@
 -- The form of a term is the form of each tree that derives from it; and terms are told apart by what they are made of.
-use Rattle.std.proofs.Common.{◌≡◌, refl, ap, sym, subst, ◌∙◌, ◌⊎◌, ℕ, List, Option, None, arith}
+use Rattle.std.proofs.Common.{◌≡◌, refl, ap, sym, subst, ◌∙◌, ◌⊎◌, ℕ, List, Option, arith}
 use mathlib.Core.Logic.{inl, inr}
 use Rattle.std.specs.Prelude.{Bool}
 use Rattle.ix_model.specs.declared.grammar.Grammar.{Grammar}
@@ -122,10 +122,10 @@ module _ (g : Grammar) (s : List ℕ) where
   derived_form (list ds) t i j h = repeated_form t h.0 h.1 h.2
 
 module _ (g : Grammar) (s : List ℕ) where
-  -- a call derives a node of a rule with its name
-  pub call_is_node : (d : Tree) (name : List ℕ) (i j : ℕ) → Derives g s d (One (Call None name)) i j →
+  -- a call with a mark or none derives a node of a rule with its name
+  pub call_is_node : (d : Tree) (mark : Option Mark) (name : List ℕ) (i j : ℕ) → Derives g s d (One (Call mark name)) i j →
       (r : ℕ) × (a : ℕ) × (ds : Trees) × (terms : List Term) × (d ≡ node r a ds) × IsNamed g r name × IsOfRule g r a terms × DerivesAll g s ds terms i j
-  call_is_node (node r a ds) name i j h =
+  call_is_node (node r a ds) mark name i j h =
       let e : h.0.1 ≡ name = cc h.0.2 in
       (r, a, ds, h.1, refl, subst (λ x. IsNamed g r x) e h.0.3, h.2, (h.3, h.4))
-  call_is_node d name i j h = absurd (omega (arith, sym (derived_form g s d (One (Call None name)) i j h) ∙ one_form _ _ 2 refl (ap factor_form (out_call None name))))
+  call_is_node d mark name i j h = absurd (omega (arith, sym (derived_form g s d (One (Call mark name)) i j h) ∙ one_form _ _ 2 refl (ap factor_form (out_call mark name))))

@@ -1,13 +1,11 @@
 -- What a tree is that derives from a term of a form that the sample's grammar has.
-use Rattle.std.proofs.Common.{◌≡◌, refl, ap, sym, subst, ◌∙◌, ℕ, List, [], ◌∷◌, Option, arith}
+use Rattle.std.proofs.Common.{◌≡◌, refl, sym, subst, ◌∙◌, ℕ, List, [], ◌∷◌, arith}
 use Rattle.ix_model.specs.declared.grammar.Grammar.{Grammar}
-use Rattle.ix_model.specs.declared.grammar.Mark.{Mark}
 use Rattle.ix_model.specs.declared.grammar.Term.{Term, One}
-use Rattle.ix_model.specs.declared.grammar.Factor.{Factor, Call, out-Factor}
-use Rattle.ix_model.specs.Grammars.Written.{IsNamed, IsOfRule}
-use Rattle.ix_model.specs.Derivations.Trees.{Tree, text, node, Trees, no_tree, and}
+use Rattle.ix_model.specs.declared.grammar.Factor.{Factor, out-Factor}
+use Rattle.ix_model.specs.Derivations.Trees.{Tree, text, Trees, no_tree, and}
 use Rattle.ix_model.specs.Derivations.Derives.{Derives, DerivesAll}
-use Rattle.ix_model.proofs.Forms.{factor_form, derived_form, one_form, out_call}
+use Rattle.ix_model.proofs.Forms.{factor_form, derived_form, one_form}
 
 -- four trees
 abbrev pub four : (c d e f : Tree) → Trees
@@ -18,14 +16,6 @@ module _ (g : Grammar) (s : List ℕ) where
   pub terminal_is_text : (f : Factor) (d : Tree) (i j : ℕ) → factor_form (out-Factor f) ≡ 0 → Derives g s d (One f) i j → (a b : ℕ) × (d ≡ text a b)
   terminal_is_text f (text a b) i j e h = (a, b, refl)
   terminal_is_text f d i j e h = absurd (omega (arith, sym (derived_form g s d (One f) i j h) ∙ one_form _ _ 0 refl e))
-
-  -- a call with a mark or none derives a node of a rule with its name
-  pub any_call_is_node : (mark : Option Mark) (name : List ℕ) (d : Tree) (i j : ℕ) → Derives g s d (One (Call mark name)) i j →
-      (r : ℕ) × (a : ℕ) × (ds : Trees) × (terms : List Term) × (d ≡ node r a ds) × IsNamed g r name × IsOfRule g r a terms × DerivesAll g s ds terms i j
-  any_call_is_node mark name (node r a ds) i j h =
-      let e : h.0.1 ≡ name = cc h.0.2 in
-      (r, a, ds, h.1, refl, subst (λ x. IsNamed g r x) e h.0.3, h.2, (h.3, h.4))
-  any_call_is_node mark name d i j h = absurd (omega (arith, sym (derived_form g s d (One (Call mark name)) i j h) ∙ one_form _ _ 2 refl (ap factor_form (out_call mark name))))
 
   -- four terms derive four trees
   pub four_derived : (ds : Trees) (t u v w : Term) (i j : ℕ) → DerivesAll g s ds (t ∷ u ∷ v ∷ w ∷ []) i j →

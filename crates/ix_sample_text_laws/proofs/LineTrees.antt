@@ -12,12 +12,12 @@ use Rattle.ix_model.specs.declared.grammar.Factor.{Lit, Set, Call}
 use Rattle.ix_model.specs.Grammars.Written.{IsAlternative, IsOfRule}
 use Rattle.ix_model.specs.Derivations.Trees.{Tree, text, node, no_item, list, Trees, no_tree, and, Repeated, one, again, again_after}
 use Rattle.ix_model.specs.Derivations.Derives.{Derives, DerivesAll, Repeats, IsDerivation}
-use Rattle.ix_model.proofs.Forms.{factor_form, out_lit, out_set}
+use Rattle.ix_model.proofs.Forms.{factor_form, out_lit, out_set, call_is_node}
 use Rattle.ix_examples.specs.SmallGrammars.{alternative, rule, deleted, call, marked_call, digits}
 use Rattle.ix_examples.proofs.Inversions.{one_alternative, one_derived, plus_derived, star_derived}
 use Rattle.ix_sample_laws.specs.SampleRules.{letters, some_of, sample_rules}
 use Rattle.ix_sample_laws.proofs.SampleConforms.{unique_names}
-use Rattle.ix_sample_text_laws.proofs.DerivedForms.{four, terminal_is_text, any_call_is_node, four_derived}
+use Rattle.ix_sample_text_laws.proofs.DerivedForms.{four, terminal_is_text, four_derived}
 
 -- a list of texts
 abbrev pub AreTexts : Repeated → Type 0
@@ -53,7 +53,7 @@ module _ (s : List ℕ) where
   called : (r : ℕ) (mark : Option Mark) (name : List ℕ) (ts : List Term) → slice_get sample_rules.rules r ≡ Some (rule name (alternative ts ∷ [])) →
       (d : Tree) (i j : ℕ) → Derives sample_rules s d (One (Call mark name)) i j → (ds : Trees) × (d ≡ node r 0 ds) × DerivesAll sample_rules s ds ts i j
   called r mark name ts p d i j h =
-      let x = any_call_is_node sample_rules s mark name d i j h in
+      let x = call_is_node sample_rules s d mark name i j h in
       let q : x.0 ≡ r = unique_names x.0 r name x.5 (rule name (alternative ts ∷ []), p, refl) in
       let y = of_rule r name ts p x.1 x.3 (subst (λ (n : ℕ). IsOfRule sample_rules n x.1 x.3) q x.6) in
       (x.2, x.4 ∙ ap (λ (n : ℕ). node n x.1 x.2) q ∙ ap (λ (n : ℕ). node r n x.2) y.0, subst (λ ts. DerivesAll sample_rules s x.2 ts i j) (sym y.1) x.7)

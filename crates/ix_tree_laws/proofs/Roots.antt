@@ -19,6 +19,6 @@ module _ (g : Grammar) (s name : List ℕ) where
   -- what derives the text from the call is a derivation, as the name is that of the first rule alone
   pub from_first_rule : (d : Tree) → HasUniqueNames g → IsNamed g 0 name → Derives g s d (One (Call None name)) 0 (length s) → IsDerivation g s d
   from_first_rule d unique named h =
-      let x = call_is_node g s d name 0 (length s) h in
+      let x = call_is_node g s d None name 0 (length s) h in
       let r : x.0 ≡ 0 = unique x.0 0 name x.5 named in
       (x.1, x.3, x.2, cc (x.4, r), subst (λ (n : ℕ). IsOfRule g n x.1 x.3) r x.6, x.7)

@@ -1,5 +1,5 @@
 -- What a call derives where a function tells the rules by their names.
-use Rattle.std.proofs.Common.{◌≡◌, ap, sym, subst, ◌∙◌, ℕ, zero, suc, ◌+◌, List, [], ◌∷◌, Some, slice_get, arith}
+use Rattle.std.proofs.Common.{◌≡◌, ap, sym, subst, ◌∙◌, ℕ, zero, suc, ◌+◌, List, [], ◌∷◌, Some, None, slice_get, arith}
 use Rattle.std.specs.Prelude.{unwrap_or}
 use Rattle.std.specs.List.{position_from}
 use Rattle.std.specs.Str.{bytes_eq}
@@ -48,7 +48,7 @@ module _ (g : Grammar) where
   pub call_of_term : AreApart g → (s : List ℕ) (d : Tree) (r : ℕ) (name other : List ℕ) (t : Term) (i j : ℕ) → place_of g name ≡ r →
       slice_get g.rules r ≡ Some (rule other (alternative (t ∷ []) ∷ [])) → Derives g s d (call name) i j → (e : Tree) × (d ≡ node_of r 0 e) × Derives g s e t i j
   call_of_term apart s d r name other t i j at is h =
-      let (q, a, ds, terms, p, named, (x, of_q, o), all) = call_is_node g s d name i j h in
+      let (q, a, ds, terms, p, named, (x, of_q, o), all) = call_is_node g s d None name i j h in
       let same : q ≡ r = named_at apart q name named ∙ at in
       let e : x ≡ rule other (alternative (t ∷ []) ∷ []) = cc (of_q, same, is) in
       let y = one_alternative (t ∷ []) a terms (subst (λ (z : Rule). IsAlternative z.alts a terms) e o) in

@@ -1,5 +1,5 @@
 -- The derivations of `1+1+1`, and the first derivations of small texts.
-use Rattle.std.proofs.Common.{◌≡◌, ◌≢◌, refl, ap, sym, subst, ◌⊎◌, ◌+◌, ◌≤◌, ℕ, zero, suc, List, [], ◌∷◌, length, codes, arith}
+use Rattle.std.proofs.Common.{◌≡◌, ◌≢◌, refl, ap, sym, subst, ◌⊎◌, ◌+◌, ◌≤◌, ℕ, zero, suc, List, [], ◌∷◌, None, length, codes, arith}
 use mathlib.Core.Logic.{inl, inr}
 use Rattle.ix_model.specs.declared.grammar.Grammar.{Grammar}
 use Rattle.ix_model.specs.declared.grammar.Rule.{Rule}
@@ -70,7 +70,7 @@ module _ (s : List ℕ) where
   -- what E derives
   digit_or_sum : (d : Tree) (i j : ℕ) → IsE d i j → IsDigit d i j ⊎ IsSum d i j
   digit_or_sum d i j h =
-      let x = call_is_node sums s d (codes "E") i j h in
+      let x = call_is_node sums s d None (codes "E") i j h in
       let r : x.0 ≡ 0 = only_rule e_rule x.0 (codes "E") x.5 in
       let z : d ≡ node 0 x.1 x.2 = cc (x.4, r) in
       subst (λ t. IsDigit t i j ⊎ IsSum t i j) (sym z) (of_alternative x.1 x.2 x.3 i j (subst (λ (n : ℕ). IsOfRule sums n x.1 x.3) r x.6) x.7)

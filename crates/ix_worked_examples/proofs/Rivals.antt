@@ -1,5 +1,5 @@
 -- The derivations of `a` under the grammars of the worked uses of the law.
-use Rattle.std.proofs.Common.{◌≡◌, refl, ap, sym, subst, ◌∙◌, ◌⊎◌, ◌≤◌, ℕ, zero, suc, List, [], ◌∷◌, codes, arith}
+use Rattle.std.proofs.Common.{◌≡◌, refl, ap, sym, subst, ◌∙◌, ◌⊎◌, ◌≤◌, ℕ, zero, suc, List, [], ◌∷◌, None, codes, arith}
 use mathlib.Core.Logic.{inl, inr}
 use Rattle.ix_model.specs.declared.grammar.Rule.{Rule}
 use Rattle.ix_model.specs.declared.grammar.Term.{Term}
@@ -64,7 +64,7 @@ named_a (suc (suc (suc r))) a terms h o = absurd (cc h.1)
 
 of_call : (e : Tree) → Derives rivals (codes "a") e (call (codes "A")) 0 1 → (r : ℕ) × ((r ≡ 1) ⊎ (r ≡ 2)) × (e ≡ node_of r 0 (text 0 1))
 of_call e h =
-    let (r, a, ds, terms, p, named, of_rule, all) = call_is_node rivals (codes "a") e (codes "A") 0 1 h in
+    let (r, a, ds, terms, p, named, of_rule, all) = call_is_node rivals (codes "a") e None (codes "A") 0 1 h in
     let n = named_a r a terms named of_rule in
     let l = one_derived rivals (codes "a") ds (quoted (codes "a")) 0 1 (subst (λ ts. DerivesAll rivals (codes "a") ds ts 0 1) (sym n.2) all) in
     let t = quoted_is_text rivals (codes "a") l.0 (codes "a") 0 1 l.2 in
