@@ -1,3 +1,1 @@
-pub mod Several
-pub mod SmallChoices
 pub mod TwoWays

@@ -2,7 +2,6 @@
 #![tactic(auto)]
 
 mod ambiguity;
-pub mod laws;
 
 pub use ambiguity::two;
 

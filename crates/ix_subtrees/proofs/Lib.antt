@@ -1,3 +1,4 @@
+pub mod Doubles
 pub mod Found
 pub mod Gathering
 pub mod LastSlots

@@ -8,6 +8,7 @@ use Rattle.ix_subtrees.specs.Entries.{entry_for, AreInOrder, AreChoicesOf}
 use Rattle.ix_subtrees.specs.Examples.{left_recursive_subs, left_recursive_useful, left_recursive_set}
 use Rattle.ix_examples.specs.TestPlans.{left_recursive}
 use Rattle.ix_subtrees.specs.Sets.{IsLastOf, AreWays, AreAlts, IsSetOf}
+use Rattle.ix_subtrees.specs.TwoChoices.{HasTwoChoices, HasTwo}
 use Rattle.ix_subtrees.specs.UsefulSubs.{AreUseful}
 use Rattle.ix_closure_laws.specs.PartLists.{AreParts}
 
@@ -88,3 +89,19 @@ ChoiceIsFound = AreChoicesOf (entry_for 1 0 1 0 ∷ []) 1 0 1 (0 ∷ [])
 -- so it does not have none
 abbrev pub ChoiceIsNotMissed : Type 0
 ChoiceIsNotMissed = AreChoicesOf (entry_for 1 0 1 0 ∷ []) 1 0 1 [] → ⊥
+
+-- one span has two choices
+abbrev pub TwoChoicesOfOneSpan : Type 0
+TwoChoicesOfOneSpan = HasTwoChoices (entry_for 0 0 1 0 ∷ entry_for 0 0 1 1 ∷ []) 0 0 1
+
+-- two spans have one each
+abbrev pub OneChoiceOfEachSpan : Type 0
+OneChoiceOfEachSpan = HasTwoChoices (entry_for 0 0 1 0 ∷ entry_for 0 0 2 1 ∷ []) 0 0 1 → ⊥
+
+-- so the first list has two choices somewhere
+abbrev pub SomeSpanHasTwo : Type 0
+SomeSpanHasTwo = HasTwo (entry_for 0 0 1 0 ∷ entry_for 0 0 1 1 ∷ [])
+
+-- and the second nowhere
+abbrev pub NoSpanHasTwo : Type 0
+NoSpanHasTwo = HasTwo (entry_for 0 0 1 0 ∷ entry_for 0 0 2 1 ∷ []) → ⊥

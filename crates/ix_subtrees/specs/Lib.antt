@@ -7,6 +7,7 @@ pub mod Orders
 pub mod Places
 pub mod Sets
 pub mod Subs
+pub mod TwoChoices
 pub mod UsefulSubs
 pub mod Walks
 pub mod WrittenLaws

@@ -1,9 +1,10 @@
-ghost use Rattle.std.specs.Prelude.{◌≡◌, ◌<◌, ◌≤◌, true, false, IfOk, length, map};
+ghost use Rattle.std.specs.Prelude.{◌≡◌, ◌↔◌, ◌<◌, ◌≤◌, true, false, IsTrue, IfOk, length, map};
 ghost use Rattle.std.specs.List.Sorted.{IsStrictlySortedBy, IsPartitionPoint};
 ghost use Rattle.std.specs.Ordering.{is_lt, is_le};
 ghost use Rattle.ix_subtrees.specs.declared.entry.Entry.{Entry as AnEntry};
 ghost use Rattle.ix_subtrees.specs.Orders.{span_cmp, entry_cmp};
 ghost use Rattle.ix_subtrees.specs.Entries.{entry_at, AreInOrder, SameMembers, AreChoices, AreChoicesOf};
+ghost use Rattle.ix_subtrees.specs.TwoChoices.{HasTwo};
 
 use crate::entry::{Entry, Span};
 use std::alloc::{AllocError, Global};
@@ -43,6 +44,19 @@ fn upper(entries: &[Entry], span: Span) -> usize
             ensures { result ≡ is_le (span_cmp entry.now.span span) }
         { entry.span <= span },
     )
+}
+
+// Whether some two entries that follow each other are of one span.
+fn has_double(entries: &[Entry]) -> bool
+    requires { IsStrictlySortedBy entry_cmp entries.now }
+    ensures { IsTrue result ↔ HasTwo entries.now }
+{
+    for at in 1..entries.len() {
+        if entries[at - 1].span == entries[at].span {
+            return true;
+        }
+    }
+    false
 }
 
 fn choices_in<'a>(entries: &[Entry], choices: &'a [u32], span: Span) -> &'a [u32]
@@ -99,6 +113,13 @@ impl Choices {
         ensures { result ≡ entry_at self.now n }
     {
         self.entries[n as usize]
+    }
+
+    /// Whether some span has two choices.
+    pub fn has_two(&self) -> bool
+        ensures { IsTrue result ↔ HasTwo self.now }
+    {
+        has_double(&self.entries)
     }
 
     /// The choices of a span, in ascending order.

@@ -1,5 +1,5 @@
 //! Laws of useful subtrees, and worked examples. Each function's contract is the law or the example; the bodies are empty.
-ghost use Rattle.ix_subtrees.specs.Laws.{PartsAreListed, PartIsLeftOut, LeftRecursiveIsListed, LeftRecursiveIsListedOnce, LeftRecursiveIsUseful, ThreeAreUseful, ClosureIsNotUseful, WaysAreListed, UselessWayIsNotListed, LastSlotEnds, InnerSlotDoesNotEnd, AltsAreListed, EmptyAltIsNotLeftOut, ListsAreTheSet, WaysAreNotTheSet, PivotsAreInOrder, TwiceIsNotInOrder, ChoiceIsFound, ChoiceIsNotMissed};
+ghost use Rattle.ix_subtrees.specs.Laws.{PartsAreListed, PartIsLeftOut, LeftRecursiveIsListed, LeftRecursiveIsListedOnce, LeftRecursiveIsUseful, ThreeAreUseful, ClosureIsNotUseful, WaysAreListed, UselessWayIsNotListed, LastSlotEnds, InnerSlotDoesNotEnd, AltsAreListed, EmptyAltIsNotLeftOut, ListsAreTheSet, WaysAreNotTheSet, PivotsAreInOrder, TwiceIsNotInOrder, ChoiceIsFound, ChoiceIsNotMissed, TwoChoicesOfOneSpan, OneChoiceOfEachSpan, SomeSpanHasTwo, NoSpanHasTwo};
 ghost use Rattle.ix_subtrees.specs.WrittenLaws.{AmbiguousIsTwoWays, DerivedIsUseful};
 
 /// The text has a derivation under the grammar exactly where some subtree is useful.
@@ -69,4 +69,12 @@ pub fn pivots_are_in_order_or_twice()
 pub fn choices_are_found_or_missed()
     ensures found { ChoiceIsFound }
     ensures missed { ChoiceIsNotMissed }
+{}
+
+/// Two choices are of one span, or of two.
+pub fn choices_are_of_one_span_or_two()
+    ensures one { TwoChoicesOfOneSpan }
+    ensures two { OneChoiceOfEachSpan }
+    ensures some { SomeSpanHasTwo }
+    ensures none { NoSpanHasTwo }
 {}

@@ -1,4 +1,4 @@
-ghost use Rattle.std.specs.Prelude.{◌≡◌, ◌↔◌, ◌<◌, ℕ, IsTrue, IfOk, length};
+ghost use Rattle.std.specs.Prelude.{◌≡◌, ◌↔◌, ◌⊎◌, ◌<◌, ℕ, IsTrue, IfOk, length};
 ghost use Rattle.ix_model.specs.declared.grammar.Grammar.{Grammar as AGrammar};
 ghost use Rattle.ix_model.specs.Expansion.Parts.{Parts};
 ghost use Rattle.ix_model.specs.Expansion.Planned.{IsPlanned, IsPlanOf};
@@ -8,6 +8,7 @@ ghost use Rattle.ix_model.specs.Closure.Useful.{sub_at};
 ghost use Rattle.ix_closure_laws.specs.UsefulLaws.{HasFlatDerivation};
 ghost use Rattle.ix_subtrees.specs.Entries.{AreInOrder, AreChoicesOf, entry_at};
 ghost use Rattle.ix_subtrees.specs.Sets.{IsSetOf, AreWays, AreAlts, sub_of_entry};
+ghost use Rattle.ix_subtrees.specs.TwoChoices.{HasTwo};
 ghost use Rattle.ix_subtrees.specs.UsefulSubs.{AreUseful};
 ghost use Rattle.ix_closure_laws.specs.PartLists.{AreParts};
 
@@ -92,6 +93,13 @@ impl SubSet {
             pivot: entry.choice,
             right: entry.span.right,
         }
+    }
+
+    /// Whether some span has two ways: two pivots of its slot, or two alternatives of its rule. It goes once over the lists.
+    pub fn has_two(&self) -> bool
+        ensures { IsTrue result ↔ (HasTwo self.now.ways ⊎ HasTwo self.now.alts) }
+    {
+        self.ways.has_two() || self.alts.has_two()
     }
 
     /// The pivots of the slot's subtrees from `low` to `high`, in ascending order.
