@@ -135,12 +135,15 @@ impl<'f> Forest<'f> {
         requires some { (k : ℕ) × MayStart self.now bound before sym low high k }
         ensures { IsLeastStart self.now bound before sym low high result }
     {
-        for &pivot in self.set.ways(before + 1, low, high) {
+        let pivots = self.set.ways(before + 1, low, high);
+        // Some pivot is right, so where no earlier one is, the last is: most often the only one.
+        for at in 1..pivots.len() {
+            let pivot = pivots[at - 1];
             if self.may_start(before, sym, low, pivot, high, bound) {
                 return pivot;
             }
         }
-        unreachable!()
+        pivots[pivots.len() - 1]
     }
 
     // Whether the alternative has trees that are no higher than the bound.
@@ -165,11 +168,13 @@ impl<'f> Forest<'f> {
         requires some { (a : ℕ) × (ds : FlatTrees) × (a < length (lines_at self.now.rules rule)) × AltWithin self.now bound rule low high a ds }
         ensures { EndsLeastAlt self.now bound rule low high result }
     {
-        for &alt in self.set.alts(rule, low, high) {
-            if let Some(last) = self.fits(rule, alt, low, high, bound) {
+        let alts = self.set.alts(rule, low, high);
+        // Some alternative fits, so where no earlier one does, the last does.
+        for at in 1..alts.len() {
+            if let Some(last) = self.fits(rule, alts[at - 1], low, high, bound) {
                 return last;
             }
         }
-        unreachable!()
+        self.plan.last(rule, alts[alts.len() - 1])
     }
 }
