@@ -9,13 +9,14 @@ use Rattle.ix_cluster.specs.declared.fact.Fact.TheVariants as fact
 use Rattle.ix_cluster.specs.Seen.{Bank}
 use Rattle.ix_cluster.specs.Sound.{AreSound}
 use Rattle.ix_closure.specs.declared.owed.Owed.{Owed}
-use Rattle.ix_closure.specs.Due.{IsRecorded, IsMissing}
+use Rattle.ix_closure.specs.Adoption.{LacksNothing}
+use Rattle.ix_closure.specs.Due.{IsRecorded}
 use Rattle.ix_closure.specs.Follows.{fact_of, FollowsDesc}
 
--- the banks are sound, and no step is missing
+-- the banks are sound and lack nothing
 pub record IsSettled (plan : Parts) (banks : List Bank) : Type 0 where
   pub sound : AreSound plan banks
-  pub none : (step : Owed) → ¬ (IsMissing plan banks step)
+  pub none : LacksNothing plan banks
 
 -- the banks have recorded what follows from what they have recorded
 pub record HaveWhatFollows (plan : Parts) (banks : List Bank) : Type 0 where

@@ -28,10 +28,14 @@ pub fn first_worker_owes_the_claims()
     ensures other_owes_too { ¬ (IsFirstList (nothing []) 1 (Claim 0 0 0 ∷ [])) }
 {}
 
-/// A worker is new with its own number alone, and knows what the root knew alone.
+/// A worker is new with its own number alone, knows what the root knew alone, and owes its list.
 pub fn new_workers_have_numbers_and_sights()
+    ensures first { (table : Table) (w : Worker) → PassFits table w.pass → sight_of w.pass ≡ record { known = []; own = [] } → w.number ≡ 0 → w.owed.items ≡ Claim 0 0 0 ∷ [] → IsNew (nothing []) table [] 0 w }
+    ensures other { (plan : Parts) (table : Table) (w : Worker) → PassFits table w.pass → sight_of w.pass ≡ record { known = []; own = [] } → w.number ≡ 3 → w.owed.items ≡ [] → IsNew plan table [] 3 w }
     ensures number { (plan : Parts) (table : Table) (w : Worker) → IsNew plan table [] 0 w → ¬ (IsNew plan table [] 1 w) }
     ensures sight { (plan : Parts) (table : Table) (w : Worker) → (sight_of w.pass).own ≡ (0, 3) ∷ [] → ¬ (IsNew plan table [] 0 w) }
+    ensures list { (table : Table) (w : Worker) → w.owed.items ≡ [] → ¬ (IsNew (nothing []) table [] 0 w) }
+    ensures of_another_table { (plan : Parts) (table : Table) (w : Worker) → ¬ (PassFits table w.pass) → ¬ (IsNew plan table [] 0 w) }
 {}
 
 /// A worker that met want of memory may have left anything undone, but its pass is one of the table.
