@@ -1,5 +1,5 @@
 -- A step that the table made, with what was appended, is done.
-use Rattle.std.proofs.Common.{◌≡◌, ℕ, ◌<◌, ◌≤◌, Bool, cond, is_some, List, [], ◌++◌, map, length, sym, ap, ◌∙◌, subst}
+use Rattle.std.proofs.Common.{◌≡◌, ℕ, ◌<◌, ◌≤◌, Bool, cond, is_some, List, [], ◌++◌, map, length, append-nil, sym, ap, ◌∙◌, subst}
 use Rattle.std.specs.List.{All}
 use Rattle.ix_model.specs.declared.sub.Sub.{Sub}
 use Rattle.ix_model.specs.Expansion.Parts.{Parts}
@@ -61,6 +61,13 @@ module _ (plan : Parts) (old new : Sight) (rest owed : List Owed) where
         follows = λ i. cond (f i) (claims_at k (firsts_of plan r)) [] ++ map (λ e. arrival k e (record { slot = s; left = l })) (e i);
         now = now;
       }
+
+-- a claim that brings nothing leaves what was owed
+pub claim_brings_nothing : (table plan : Parts) (old new : Sight) (owed : List Owed) (s l p : ℕ) (claimed other : Claimed) → table ≡ plan → IsStep table old (MakeClaim s l p) (Belongs claimed) new →
+    claimed ≡ other → FollowsClaim plan other s l p [] → IsDone plan old (step.Claim s l p) owed new owed
+claim_brings_nothing table plan old new owed s l p claimed other same made is follows =
+    claim_done plan old new owed owed s l p claimed [] (for_plan table plan old (MakeClaim s l p) (Belongs claimed) new same made)
+    (subst (λ (z : Claimed). FollowsClaim plan z s l p []) (sym is) follows) (sym (append-nil owed))
 
 -- ---- what the calls for what follows ask
 
