@@ -140,6 +140,24 @@ fn finished_banks_lack_nothing(rt: HostRuntime) -> Result<(), Fail> {
 }
 
 #[test]
+fn refused_core_is_finished_later(rt: HostRuntime) -> Result<(), Fail> {
+    let alloc = rt.alloc();
+    let plan = only_a(alloc, &['a'])?;
+    let banks = match Core::begin(alloc, &plan)?.finish() {
+        Ok(banks) => banks,
+        // Comes where a request for memory is refused, and no second one is.
+        Err(unfinished) => {
+            let Ok(banks) = unfinished.core.finish() else {
+                panic!(rt; "memory was refused once");
+            };
+            banks
+        }
+    };
+    assert_eq!(rt; facts_of(alloc, &banks)?.len(), 7);
+    Ok(())
+}
+
+#[test]
 fn begun_banks_lack_their_claims(rt: HostRuntime) -> Result<(), Fail> {
     let alloc = rt.alloc();
     let plan = sums(alloc, &['1', '+', '1', '+', '1'])?;
